@@ -1,0 +1,21 @@
+-- When two names, and two GTIDs, are equal; and what their parts may be.
+use Rattle.std.specs.Prelude.{ℕ, ◌≤◌, ◌-◌, ◌^◌, Bool, ◌&&◌, List, length, nat_eq}
+use Rattle.std.specs.Cmp.Lexicographic.{pointwise}
+pub use Rattle.vs_base.specs.declared.shard_name.ShardName.{ShardName}
+pub use Rattle.vs_base.specs.declared.gtid.Gtid.{Gtid}
+
+-- the names have the same keyspace and the same shard
+unfoldable pub same_name : ShardName → ShardName → Bool
+same_name a b = pointwise nat_eq a.keyspace b.keyspace && pointwise nat_eq a.shard b.shard
+
+-- the GTIDs have the same UUID and the same number
+unfoldable pub same_gtid : Gtid → Gtid → Bool
+same_gtid a b = pointwise nat_eq a.uuid b.uuid && nat_eq a.number b.number
+
+-- these may be the parts of a name
+abbrev pub FitsName : List ℕ → List ℕ → Type 0
+FitsName keyspace shard = (length keyspace ≤ 64) × (length shard ≤ 64)
+
+-- this may be the number of a GTID
+abbrev pub FitsGtid : ℕ → Type 0
+FitsGtid number = (1 ≤ number) × (number ≤ 2 ^ 63 - 2)

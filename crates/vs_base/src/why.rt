@@ -1,0 +1,40 @@
+use crate::Gtid;
+
+/// What is wrong with an event of a log. The place of the event is told beside it.
+#[derive(Debug, Clone, Copy, PartialEq, Eq)]
+pub enum Why {
+    /// A byte of the magic number differs.
+    BadMagic,
+    /// The first event is no format description.
+    NoFormat,
+    /// The format description is not of version 4.
+    BadVersion { version: u16 },
+    /// The log has checksums.
+    Checksummed { kind: u8 },
+    /// The length in the head is below that of a head.
+    BadLength { length: u32 },
+    /// The body is against its layout.
+    BadEvent { kind: u8 },
+    /// An event of this kind cannot stand here.
+    BadOrder { kind: u8 },
+    /// A transaction begins inside another.
+    NestedBegin,
+    /// A transaction has no GTID.
+    Anonymous,
+    /// The number of a GTID is out of range.
+    BadGtid,
+    /// A GTID stands twice, or lies in the base.
+    RepeatedGtid { gtid: Gtid },
+    /// An event of this kind is not read.
+    Unsupported { kind: u8 },
+    /// A statement is not read.
+    UnsupportedStatement,
+    /// The event, or its transaction, has too many bytes.
+    TooLarge { bytes: u64 },
+    /// The GTIDs of the log have over 1,024 intervals.
+    TooManyIntervals,
+    /// A journal stands beside other changes.
+    JournalNotAlone,
+    /// The log goes on with what this release does not read.
+    NotBuilt,
+}
