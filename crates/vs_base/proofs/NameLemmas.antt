@@ -3,7 +3,9 @@ use Rattle.std.proofs.Common.{◌≡◌, ℕ, ◌≤◌, ◌-◌, ◌^◌, ◌&&
 use Rattle.std.proofs.Math.Bridge.{le_prop}
 use Rattle.std.proofs.lemmas.Bool.{and_parts, eqb-true, eq-eqb}
 use Rattle.std.proofs.lemmas.Slice.Eq.{bytes_eq-Decides}
-use Rattle.vs_base.specs.Names.{ShardName, Gtid, same_name, same_gtid}
+use Rattle.vs_base.specs.Names.{same_name, same_gtid}
+use Rattle.vs_base.specs.declared.shard_name.ShardName.{ShardName}
+use Rattle.vs_base.specs.declared.gtid.Gtid.{Gtid}
 
 both_true : (x y : Bool) → x ≡ true → y ≡ true → (x && y) ≡ true
 both_true x y p q = cc

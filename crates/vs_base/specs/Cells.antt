@@ -1,8 +1,8 @@
 -- How many bytes cells have, and which keys are within the limits.
 use Rattle.std.specs.Prelude.{ℕ, ◌≤◌, List, length}
 use Rattle.std.specs.List.{sum_by}
-pub use Rattle.vs_base.specs.declared.cell.Cell.{Cell}
-pub use Rattle.vs_base.specs.declared.cell.Cell.TheVariants.{Null, Bytes}
+use Rattle.vs_base.specs.declared.cell.Cell.{Cell}
+use Rattle.vs_base.specs.declared.cell.Cell.TheVariants.{Null, Bytes}
 
 abbrev pub cell_size : Cell → ℕ
 cell_size Null = 0

@@ -1,8 +1,9 @@
 -- When two names, and two GTIDs, are equal; and what their parts may be.
-use Rattle.std.specs.Prelude.{ℕ, ◌≤◌, ◌-◌, ◌^◌, Bool, ◌&&◌, List, length, nat_eq}
+use Rattle.std.specs.Prelude.{ℕ, ◌≤◌, ◌-◌, ◌^◌, Bool, true, not, ◌&&◌, List, [], ◌∷◌, length, nat_eq}
+use Rattle.std.specs.List.{list_any}
 use Rattle.std.specs.Cmp.Lexicographic.{pointwise}
-pub use Rattle.vs_base.specs.declared.shard_name.ShardName.{ShardName}
-pub use Rattle.vs_base.specs.declared.gtid.Gtid.{Gtid}
+use Rattle.vs_base.specs.declared.shard_name.ShardName.{ShardName}
+use Rattle.vs_base.specs.declared.gtid.Gtid.{Gtid}
 
 -- the names have the same keyspace and the same shard
 unfoldable pub same_name : ShardName → ShardName → Bool
@@ -19,3 +20,8 @@ FitsName keyspace shard = (length keyspace ≤ 64) × (length shard ≤ 64)
 -- this may be the number of a GTID
 abbrev pub FitsGtid : ℕ → Type 0
 FitsGtid number = (1 ≤ number) × (number ≤ 2 ^ 63 - 2)
+
+-- no two of the names are equal
+abbrev pub names_differ : List ShardName → Bool
+names_differ [] = true
+names_differ (name ∷ names) = not (list_any (same_name name) names) && names_differ names
