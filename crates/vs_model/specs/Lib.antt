@@ -1,0 +1,9 @@
+pub mod Names
+pub mod Logs
+pub mod Vectors
+pub mod Frames
+pub mod Copy
+pub mod Legal
+pub mod Steps
+pub mod Reached
+pub mod Requests
