@@ -1,5 +1,6 @@
 -- When two names, and two GTIDs, are equal; and what their parts may be.
-use Rattle.std.specs.Prelude.{ℕ, ◌≤◌, ◌-◌, ◌^◌, Bool, true, not, ◌&&◌, List, [], ◌∷◌, length, nat_eq}
+use Rattle.std.specs.Prelude.{◌≡◌, ℕ, ◌≤◌, ◌-◌, ◌^◌, Bool, true, false, not, ◌&&◌, List, [], ◌∷◌, length, nat_eq, nat_le, Option, Some, None, refl}
+use Rattle.std.proofs.lemmas.Bool.{leb-true}
 use Rattle.std.specs.List.{list_any}
 use Rattle.std.specs.Cmp.Lexicographic.{pointwise}
 use Rattle.vs_base.specs.declared.shard_name.ShardName.{ShardName}
@@ -20,6 +21,16 @@ FitsName keyspace shard = (length keyspace ≤ 64) × (length shard ≤ 64)
 -- this may be the number of a GTID
 abbrev pub FitsGtid : ℕ → Type 0
 FitsGtid number = (1 ≤ number) × (number ≤ 2 ^ 63 - 2)
+
+-- the GTID of these parts, where the tests say that its number is in range
+abbrev pub gtid_tested : (uuid : List ℕ) (number : ℕ) (low high : Bool) → nat_le 1 number ≡ low → nat_le number (2 ^ 63 - 2) ≡ high → Option Gtid
+gtid_tested uuid number true true p q = Some (record { uuid = uuid; number = number; first = leb-true 1 number p; last = leb-true number (2 ^ 63 - 2) q })
+gtid_tested uuid number true false p q = None
+gtid_tested uuid number false high p q = None
+
+-- the GTID of these parts, if its number is in range
+unfoldable pub gtid_of : List ℕ → ℕ → Option Gtid
+gtid_of uuid number = gtid_tested uuid number (nat_le 1 number) (nat_le number (2 ^ 63 - 2)) refl refl
 
 -- no two of the names are equal
 abbrev pub names_differ : List ShardName → Bool

@@ -10,13 +10,17 @@ pub struct Gtid {
 }
 
 impl Gtid {
-    ghost use Rattle.vs_base.specs.Names.{same_gtid, FitsGtid};
+    ghost use Rattle.vs_base.specs.Names.{FitsGtid, gtid_of, same_gtid};
 
     /// The GTID of these parts, or none where the number is out of range.
     pub fn new(uuid: [u8; 16], number: u64) -> Option<Gtid>
-        ensures { MatchOption result (¬ FitsGtid number) (λ g. (g.uuid ≡ uuid) × (g.number ≡ number)) }
+        ensures gtid { result ≡ gtid_of uuid number }
+        ensures parts { MatchOption result (¬ FitsGtid number) (λ g. (g.uuid ≡ uuid) × (g.number ≡ number)) }
     {
-        if number == 0 || number > 9_223_372_036_854_775_806 {
+        if number == 0 {
+            return None;
+        }
+        if number > 9_223_372_036_854_775_806 {
             return None;
         }
         Some(Gtid { uuid, number })

@@ -1,7 +1,7 @@
 -- What the logs of a cluster mean: the entries of each shard, and which of them are due from a position.
+pub use Rattle.vs_gtid.specs.Logs.{Log, HaveDistinctGtids}
 use Rattle.vs_base.specs.declared.ShardName.{ShardName}
 use Rattle.vs_base.specs.declared.Gtid.{Gtid}
-use Rattle.vs_base.specs.declared.Why.{Why}
 use Rattle.vs_base.specs.declared.Cell.{Cell}
 use Rattle.vs_base.specs.declared.Change.{Change}
 use Rattle.vs_gtid.specs.declared.JournalValue.{JournalValue}
@@ -15,12 +15,6 @@ use Rattle.vs_model.specs.Names.{Position, same_name, same_gtid, has, is_in}
 
 abbrev pub Image : Type 0
 Image = List Cell
-
--- What the bytes of a log mean: the base and the entries of the log that they hold, and the place and the cause of the first fault.
-pub record Log : Type 0 where
-  pub base : Position
-  pub entries : List Entry
-  pub fault : Option (ℕ × Why)
 
 abbrev pub Cluster : Type 0
 Cluster = List (ShardName × Log)
@@ -81,11 +75,6 @@ between s log p q = filter (λ e. has q e.gtid) (due s log p)
 -- whether one of the entries has the GTID
 abbrev pub is_gtid_of : List Entry → Gtid → Bool
 is_gtid_of es g = list_any (λ e. same_gtid e.gtid g) es
-
--- no GTID stands twice
-abbrev pub HaveDistinctGtids : List Entry → Type 0
-HaveDistinctGtids [] = Unit {0}
-HaveDistinctGtids (e ∷ es) = (list_any (λ f. same_gtid e.gtid f.gtid) es ≡ false) × HaveDistinctGtids es
 
 -- q is p and the GTIDs of the entries, and nothing else
 abbrev pub IsPositionAfter : Position → List Entry → Position → Type 0

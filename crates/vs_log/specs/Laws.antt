@@ -1,0 +1,54 @@
+-- The laws that tie the table to the productions.
+use Rattle.std.specs.List.{AllByRecursion}
+use Rattle.std.specs.Prelude.{false, ◌≡◌, ◌≤◌, length, take, ◌⊎◌, List, [], ◌∷◌, ◌++◌, Some, None, Result, Ok, Err, ℕ}
+use Rattle.vs_base.specs.declared.Why.{Why}
+use Rattle.vs_gtid.specs.declared.Entry.{Entry}
+use Rattle.vs_gtid.specs.Logs.{Log, HaveDistinctGtids}
+use Rattle.vs_gtid.specs.Positions.{Position, IsCanonical, has}
+use Rattle.vs_log.specs.declared.state.State.{State}
+use Rattle.vs_log.specs.Events.{Event}
+use Rattle.vs_log.specs.Table.{Rules, step, ◌>>=◌}
+use Rattle.vs_log.specs.Meaning.{log_meant}
+use Rattle.vs_log.specs.Productions.{Begins, IsWholeLog, Means}
+
+-- the state to which events lead
+abbrev pub walk : Rules → State → List Event → Result State Why
+walk rules s [] = Ok s
+walk rules s (e ∷ es) = step rules s e >>= λ next. walk rules next es
+
+-- The table takes an event where, and only where, the beginning of a log goes on with it.
+pub record TakesBeginnings (rules : Rules) : Type 0 where
+  pub takes : (events : List Event) (s next : State) (e : Event) → Begins rules events s → step rules s e ≡ Ok next → Begins rules (events ++ e ∷ []) next
+  -- nothing that begins a log goes on with what is refused, whatever follows
+  pub refuses : (events more : List Event) (s t : State) (e : Event) (why : Why) → Begins rules events s → step rules s e ≡ Err why → Begins rules (events ++ e ∷ more) t → ⊥
+  -- what begins a log does so in one way
+  pub once : (events : List Event) (s t : State) → Begins rules events s → Begins rules events t → s ≡ t
+
+-- What bytes mean by the table is what they mean by the productions, and nothing else is.
+pub record MeansByProductions (rules : Rules) (bytes : List ℕ) : Type 0 where
+  pub means : Means rules bytes (log_meant rules bytes)
+  pub only : (log : Log) → Means rules bytes log → log ≡ log_meant rules bytes
+
+-- What more bytes do: entries stay, and come behind; a fault stays as it is, and all else with it.
+pub record Grows (rules : Rules) (bytes more : List ℕ) : Type 0 where
+  pub entries : (later : List Entry) × ((log_meant rules (bytes ++ more)).entries ≡ (log_meant rules bytes).entries ++ later)
+  -- so what was given stays, however the bytes are cut into pieces
+  pub given : (n : ℕ) → n ≤ length (log_meant rules bytes).entries → take n (log_meant rules (bytes ++ more)).entries ≡ take n (log_meant rules bytes).entries
+  pub faulty : (fault : ℕ × Why) → (log_meant rules bytes).fault ≡ Some fault → log_meant rules (bytes ++ more) ≡ log_meant rules bytes
+  -- what a whole log says
+  pub whole : (base : Position) (es : List Entry) → IsWholeLog rules bytes base es → log_meant rules bytes ≡ record { base = base; entries = es; fault = None }
+
+-- The entries and the base are those of a front of the bytes that is a whole log, or there are none; and what any whole log at the front has, comes first.
+pub record IsOfWholeLog (rules : Rules) (bytes : List ℕ) : Type 0 where
+  pub some : ((prefix : List ℕ) × (rest : List ℕ) × (bytes ≡ prefix ++ rest) × IsWholeLog rules prefix (log_meant rules bytes).base (log_meant rules bytes).entries)
+      ⊎ (((log_meant rules bytes).base ≡ []) × ((log_meant rules bytes).entries ≡ []))
+  pub longest : (prefix rest : List ℕ) (base : Position) (es : List Entry) → bytes ≡ prefix ++ rest → IsWholeLog rules prefix base es → (later : List Entry) × ((log_meant rules bytes).entries ≡ es ++ later)
+
+-- no GTID of the log stands twice, or lies in the base
+pub record HasNewGtids (log : Log) : Type 0 where
+  pub distinct : HaveDistinctGtids log.entries
+  pub lacking : AllByRecursion (λ e. has log.base e.gtid ≡ false) log.entries
+
+-- the bases that the rules read are canonical
+abbrev pub ReadsCanonicalBases : Rules → Type 0
+ReadsCanonicalBases rules = (body : List ℕ) (base : Position) → rules.block body ≡ Ok base → IsCanonical base

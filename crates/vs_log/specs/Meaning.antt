@@ -1,0 +1,51 @@
+-- What the bytes of a log mean, by the table: the events are taken one after the other, until one is refused or isn't whole.
+use Rattle.std.specs.Prelude.{ℕ, zero, suc, ◌+◌, Bool, nat_lt, if◌then◌else◌, List, [], length, take, drop, Option, Some, None, Ok, Err}
+use Rattle.std.specs.Cmp.Lexicographic.{pointwise}
+use Rattle.std.specs.Prelude.{nat_eq}
+use Rattle.vs_log.specs.Events.{length_of, is_held, limit, last_place, magic}
+use Rattle.vs_base.specs.declared.Why.{Why}
+use Rattle.vs_base.specs.declared.Why.TheVariants.{BadMagic, BadLength, TooLarge}
+use Rattle.vs_gtid.specs.Logs.{Log}
+use Rattle.vs_log.specs.declared.state.Place.{Place}
+use Rattle.vs_log.specs.declared.state.Place.TheVariants.{Front}
+use Rattle.vs_log.specs.declared.state.State.{State}
+use Rattle.vs_log.specs.Table.{Rules, bytes_with, step}
+
+abbrev pub front : State
+front = record { base = []; entries = []; known = []; place = Front }
+
+-- What is wrong with an event of which not all bytes are there, by its head alone: nothing, where there is no whole head.
+unfoldable pub head_refusal : ℕ → Place → List ℕ → Option Why
+head_refusal at place rest =
+    if nat_lt (length rest) 19 then None
+    else if nat_lt (length_of rest) 19 then Some (BadLength (length_of rest))
+    else if nat_lt limit (bytes_with place rest) then Some (TooLarge (bytes_with place rest))
+    else if nat_lt last_place (at + length_of rest) then Some (TooLarge (length_of rest))
+    else None
+
+abbrev pub at_place : {A : Type 0} → ℕ → Option A → Option (ℕ × A)
+at_place at None = None
+at_place at (Some why) = Some (at, why)
+
+-- the log that ends so
+abbrev pub log_of : State → ℕ → Option Why → Log
+log_of s at why = record { base = s.base; entries = s.entries; fault = at_place at why }
+
+-- the log from a place on, with so many events at most
+unfoldable pub follow : ℕ → Rules → ℕ → State → List ℕ → Log
+follow zero rules at s rest = log_of s at None
+follow (suc n) rules at s rest =
+    if is_held at rest
+    then (elim (step rules s (take (length_of rest) rest)) [
+      | Ok next ↦ follow n rules (at + length_of rest) next (drop (length_of rest) rest)
+      | Err why ↦ log_of s at (Some why)
+    ])
+    else log_of s at (head_refusal at s.place rest)
+
+-- each byte of the magic that is there is right
+abbrev pub has_magic : List ℕ → Bool
+has_magic bytes = pointwise nat_eq (take 4 bytes) (take (length bytes) magic)
+
+-- each event has a byte at least, so there are no more of them than bytes
+unfoldable pub log_meant : Rules → List ℕ → Log
+log_meant rules bytes = if has_magic bytes then follow (suc (length bytes)) rules 4 front (drop 4 bytes) else log_of front 0 (Some BadMagic)

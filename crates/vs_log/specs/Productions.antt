@@ -1,0 +1,240 @@
+-- Which bytes are a log, by productions over whole texts, and which are the beginning of one.
+use Rattle.std.specs.Prelude.{◌≡◌, ◌≤◌, ◌<◌, ◌⊎◌, ℕ, ◌+◌, Bool, true, false, List, [], ◌∷◌, ◌++◌, length, take, drop, Option, Some, None, Ok, Err, map}
+use Rattle.std.specs.List.{filter, AllByRecursion}
+use Rattle.vs_base.specs.declared.Gtid.{Gtid}
+use Rattle.vs_base.specs.declared.Why.{Why}
+use Rattle.vs_base.specs.declared.Why.TheVariants.{BadMagic}
+use Rattle.vs_gtid.specs.declared.Work.{Work}
+use Rattle.vs_gtid.specs.declared.Work.TheVariants.{Rows, Journal}
+use Rattle.vs_gtid.specs.declared.Entry.{Entry}
+use Rattle.vs_gtid.specs.Logs.{Log}
+use Rattle.vs_gtid.specs.Positions.{Position, has}
+use Rattle.vs_gtid.specs.Joins.{added}
+use Rattle.vs_log.specs.declared.event.Sort.{Sort}
+use Rattle.vs_log.specs.declared.event.Sort.TheVariants.{PassedOver, FormatEvent, PreviousEvent, GtidEvent, QueryEvent, XidEvent, MapEvent, RowsEvent}
+use Rattle.vs_log.specs.declared.state.Statement.{Statement}
+use Rattle.vs_log.specs.declared.state.Statement.TheVariants.{Begin, Commit, Savepoint}
+use Rattle.vs_log.specs.declared.state.Counted.{Counted}
+use Rattle.vs_log.specs.declared.state.Counted.TheVariants.{Changed, Journaled}
+use Rattle.vs_log.specs.declared.state.Place.{Place}
+use Rattle.vs_log.specs.declared.state.Place.TheVariants.{Front, Between, Named, Inside}
+use Rattle.vs_log.specs.declared.state.State.{State}
+use Rattle.vs_log.specs.Events.{Event, time_of, kind_of, length_of, body_of, sort_of, is_held, limit, last_place, magic, joined, IsEvent}
+use Rattle.vs_log.specs.Table.{Rules, format_refusal, gtid_in, single_work, step}
+use Rattle.vs_log.specs.Meaning.{front, head_refusal, has_magic, log_of}
+
+-- events that aren't passed over
+abbrev pub counts : Sort → Bool
+counts PassedOver = false
+counts sort = true
+
+abbrev pub is_counted : Event → Bool
+is_counted e = counts (sort_of e)
+
+-- the bytes of events together
+abbrev pub total : List Event → ℕ
+total [] = 0
+total (e ∷ es) = length_of e + total es
+
+-- lists one after the other
+abbrev pub in_turn : List (List Event) → List Event
+in_turn [] = []
+in_turn (group ∷ groups) = group ++ in_turn groups
+
+pub record IsFormat (e : Event) : Type 0 where
+  pub kind : sort_of e ≡ FormatEvent
+  pub layout : format_refusal (body_of e) ≡ None
+
+pub record IsGtid (e : Event) (g : Gtid) : Type 0 where
+  pub kind : sort_of e ≡ GtidEvent
+  pub layout : gtid_in (body_of e) ≡ Ok g
+
+pub record Says (rules : Rules) (e : Event) (statement : Statement) : Type 0 where
+  pub kind : sort_of e ≡ QueryEvent
+  pub layout : rules.statement (body_of e) ≡ Ok statement
+
+pub record IsXid (e : Event) : Type 0 where
+  pub kind : sort_of e ≡ XidEvent
+  pub layout : 8 ≤ length (body_of e)
+
+pub record IsMap (rules : Rules) (e : Event) : Type 0 where
+  pub kind : sort_of e ≡ MapEvent
+  pub layout : rules.map (body_of e) ≡ None
+
+-- a rows event, after these table maps
+pub record Tells (rules : Rules) (maps : List (List ℕ)) (e : Event) (counted : List Counted) : Type 0 where
+  pub kind : sort_of e ≡ RowsEvent
+  pub layout : rules.rows maps (kind_of e) (body_of e) ≡ Ok counted
+
+-- PREVIOUS_GTIDS, at most once
+abbrev pub IsBase : Rules → List Event → Position → Type 0
+IsBase rules [] base = base ≡ []
+IsBase rules (e ∷ []) base = (sort_of e ≡ PreviousEvent) × (rules.block (body_of e) ≡ Ok base)
+IsBase rules (e ∷ f ∷ es) base = ⊥
+
+-- (map | rows | savepoint)*: behind the maps before, these events tell this, and leave these maps
+abbrev pub IsMiddle : Rules → List (List ℕ) → List Event → List Counted → List (List ℕ) → Type 0
+IsMiddle rules before [] counted maps = (counted ≡ []) × (before ≡ maps)
+IsMiddle rules before (e ∷ es) counted maps =
+    (IsMap rules e × IsMiddle rules (before ++ body_of e ∷ []) es counted maps)
+    ⊎ (((told more : List Counted) × Tells rules before e told × (counted ≡ told ++ more) × IsMiddle rules before es more maps)
+    ⊎ (Says rules e Savepoint × IsMiddle rules before es counted maps))
+
+-- changes alone, or one journal alone
+abbrev pub IsWork : List Counted → Work → Type 0
+IsWork counted (Rows changes) = counted ≡ map Changed changes
+IsWork counted (Journal j) = counted ≡ Journaled j ∷ []
+IsWork counted work = ⊥
+
+-- gtid query
+pub record IsSingle (rules : Rules) (events : List Event) (e : Entry) : Type 0 where
+  pub gtid : Event
+  pub query : Event
+  pub are : events ≡ gtid ∷ query ∷ []
+  pub names : IsGtid gtid e.gtid
+  pub statement : Statement
+  pub says : Says rules query statement
+  pub work : single_work statement ≡ Some e.work
+  pub time : e.time ≡ time_of query
+
+-- gtid query(BEGIN) (map | rows | savepoint)*
+pub record IsUnended (rules : Rules) (events : List Event) (g : Gtid) (maps : List (List ℕ)) (work : Work) : Type 0 where
+  pub gtid : Event
+  pub begin : Event
+  pub middle : List Event
+  pub are : events ≡ gtid ∷ begin ∷ middle
+  pub names : IsGtid gtid g
+  pub begins : Says rules begin Begin
+  pub counted : List Counted
+  pub tells : IsMiddle rules [] middle counted maps
+  pub comes : IsWork counted work
+
+-- xid | query(COMMIT)
+abbrev pub Ends : Rules → Event → Type 0
+Ends rules e = IsXid e ⊎ Says rules e Commit
+
+-- gtid query(BEGIN) (map | rows | savepoint)* (xid | query(COMMIT))
+pub record IsTransaction (rules : Rules) (events : List Event) (e : Entry) : Type 0 where
+  pub opened : List Event
+  pub last : Event
+  pub are : events ≡ opened ++ last ∷ []
+  pub maps : List (List ℕ)
+  pub begun : IsUnended rules opened e.gtid maps e.work
+  pub ends : Ends rules last
+  pub time : e.time ≡ time_of last
+
+pub record IsEntry (rules : Rules) (events : List Event) (e : Entry) : Type 0 where
+  pub form : IsSingle rules events e ⊎ IsTransaction rules events e
+  pub size : total events ≤ limit
+
+-- no GTID repeats one of the set, and the set with it isn't too large
+pub record IsNew (known : Position) (g : Gtid) : Type 0 where
+  pub lacks : has known g ≡ false
+  pub few : length (added known g) ≤ 1024
+
+-- the entries that the groups of events are, behind the GTIDs known before them, and the GTIDs known behind them
+abbrev pub AreEntries : Rules → Position → List (List Event) → List Entry → Position → Type 0
+AreEntries rules known [] [] after = known ≡ after
+AreEntries rules known (group ∷ groups) (e ∷ es) after = IsEntry rules group e × IsNew known e.gtid × AreEntries rules (added known e.gtid) groups es after
+AreEntries rules known [] (e ∷ es) after = ⊥
+AreEntries rules known (group ∷ groups) [] after = ⊥
+
+-- A format description, at most one PREVIOUS_GTIDS event, the events of entries, and some more.
+-- Events that are passed over may stand anywhere behind the first.
+pub record IsLog (rules : Rules) (events : List Event) (base : Position) (entries : List Entry) (known : Position) (opened : List Event) : Type 0 where
+  pub format : Event
+  pub after : List Event
+  pub are : events ≡ format ∷ after
+  pub is_format : IsFormat format
+  pub sizes : AllByRecursion (λ e. length_of e ≤ limit) events
+  pub previous : List Event
+  pub groups : List (List Event)
+  pub parts : filter is_counted after ≡ previous ++ (in_turn groups ++ opened)
+  pub is_base : IsBase rules previous base
+  pub are_entries : AreEntries rules base groups entries known
+
+-- no event, or less than an entry: nothing, gtid, or gtid query(BEGIN) (map | rows | savepoint)*
+pub record IsNamed (rules : Rules) (events : List Event) (g : Gtid) : Type 0 where
+  pub gtid : Event
+  pub are : events ≡ gtid ∷ []
+  pub names : IsGtid gtid g
+
+-- the rest of the events is such a beginning, as the state says
+abbrev pub IsBegun : Rules → Position → List Event → State → Place → Type 0
+IsBegun rules known opened s Front = ⊥
+IsBegun rules known opened s (Between first) = (opened ≡ []) × (s.known ≡ known)
+IsBegun rules known opened s (Named g bytes) = IsNamed rules opened g × IsNew known g × (s.known ≡ added known g) × (bytes ≡ total opened) × (total opened ≤ limit)
+IsBegun rules known opened s (Inside g bytes maps work) = IsUnended rules opened g maps work × IsNew known g × (s.known ≡ added known g) × (bytes ≡ total opened) × (total opened ≤ limit)
+
+-- whether a PREVIOUS_GTIDS event may follow: only where no event that counts stood behind the format description
+abbrev pub is_first : Place → Bool
+is_first (Between first) = first
+is_first place = false
+
+abbrev pub is_nil : {A : Type 0} → List A → Bool
+is_nil [] = true
+is_nil (x ∷ xs) = false
+
+-- The events are the beginning of a log, and the state says which.
+pub record Stands (rules : Rules) (events : List Event) (s : State) : Type 0 where
+  pub known : Position
+  pub opened : List Event
+  pub log : IsLog rules events s.base s.entries known opened
+  pub begun : IsBegun rules known opened s s.place
+  pub first : is_first s.place ≡ is_nil (filter is_counted (drop 1 events))
+
+abbrev pub Begins : Rules → List Event → State → Type 0
+Begins rules [] s = s ≡ front
+Begins rules (e ∷ es) s = Stands rules (e ∷ es) s
+
+-- Bytes are the magic, whole events, and a rest. Each event ends by the last place.
+pub record IsCut (bytes : List ℕ) (events : List Event) (rest : List ℕ) : Type 0 where
+  pub are : bytes ≡ magic ++ (joined events ++ rest)
+  pub whole : AllByRecursion IsEvent events
+  pub short : 4 + length (joined events) ≤ last_place
+
+-- a whole log
+pub record IsWholeLog (rules : Rules) (bytes : List ℕ) (base : Position) (entries : List Entry) : Type 0 where
+  pub events : List Event
+  pub cut : IsCut bytes events []
+  pub known : Position
+  pub log : IsLog rules events base entries known []
+
+-- the rest begins with a whole event, which the table refuses
+pub record IsWrong (rules : Rules) (s : State) (at : ℕ) (rest : List ℕ) (why : Why) : Type 0 where
+  pub event : Event
+  pub more : List ℕ
+  pub are : rest ≡ event ++ more
+  pub whole : IsEvent event
+  pub short : at + length event ≤ last_place
+  pub refused : step rules s event ≡ Err why
+
+-- what is wrong with the event at the front of the rest, if it is whole; of one that isn't, by its head
+abbrev pub Refuses : Rules → State → ℕ → List ℕ → Option Why → Type 0
+Refuses rules s at rest (Some why) =
+    IsWrong rules s at rest why
+    ⊎ ((is_held at rest ≡ false) × (head_refusal at s.place rest ≡ Some why))
+Refuses rules s at rest None = (is_held at rest ≡ false) × (head_refusal at s.place rest ≡ None)
+
+-- The bytes are events that begin a log, and a rest, which is wrong or may go on.
+pub record Parts (rules : Rules) (bytes : List ℕ) (log : Log) : Type 0 where
+  pub events : List Event
+  pub rest : List ℕ
+  pub cut : IsCut bytes events rest
+  pub state : State
+  pub begins : Begins rules events state
+  pub why : Option Why
+  pub refused : Refuses rules state (4 + length (joined events)) rest why
+  pub is : log ≡ log_of state (4 + length (joined events)) why
+
+-- the bytes are less than the magic, and are its front
+abbrev pub IsShort : List ℕ → Log → Type 0
+IsShort bytes log = (length bytes < 4) × (bytes ≡ take (length bytes) magic) × (log ≡ log_of front 0 None)
+
+-- a byte of the magic that is there is wrong
+abbrev pub IsNoLog : List ℕ → Log → Type 0
+IsNoLog bytes log = (has_magic bytes ≡ false) × (log ≡ log_of front 0 (Some BadMagic))
+
+-- what the bytes of a log mean
+abbrev pub Means : Rules → List ℕ → Log → Type 0
+Means rules bytes log = Parts rules bytes log ⊎ (IsShort bytes log ⊎ IsNoLog bytes log)

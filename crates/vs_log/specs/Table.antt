@@ -1,0 +1,155 @@
+-- The table of a log's events: what each event does where it stands, and what is wrong with it. Line by line.
+use Rattle.vs_base.specs.declared.Gtid.{Gtid}
+use Rattle.vs_base.specs.declared.Why.{Why}
+use Rattle.vs_base.specs.declared.Why.TheVariants.{NoFormat, BadVersion, Checksummed, BadEvent, BadOrder, NestedBegin, Anonymous, BadGtid, RepeatedGtid, Unsupported, UnsupportedStatement, TooLarge, TooManyIntervals, JournalNotAlone}
+use Rattle.vs_base.specs.Names.{gtid_of}
+use Rattle.vs_gtid.specs.declared.Work.{Work}
+use Rattle.vs_gtid.specs.declared.Work.TheVariants.{Rows, Other, Journal}
+use Rattle.vs_gtid.specs.Positions.{Position, has}
+use Rattle.vs_gtid.specs.Joins.{added}
+use Rattle.vs_log.specs.declared.state.Statement.{Statement}
+use Rattle.vs_log.specs.declared.state.Statement.TheVariants.{Begin, Commit, Savepoint, Xa, Single}
+use Rattle.vs_log.specs.declared.state.Counted.{Counted}
+use Rattle.vs_log.specs.declared.state.Counted.TheVariants.{Changed, Journaled}
+use Rattle.vs_log.specs.declared.state.Place.{Place}
+use Rattle.vs_log.specs.declared.state.Place.TheVariants.{Front, Between, Named, Inside}
+use Rattle.vs_log.specs.declared.state.State.{State}
+use Rattle.vs_log.specs.declared.event.Sort.{Sort}
+use Rattle.vs_log.specs.declared.event.Sort.TheVariants.{AnonymousEvent, PassedOver, FormatEvent, PreviousEvent, GtidEvent, QueryEvent, XidEvent, MapEvent, RowsEvent, ForeignEvent}
+use Rattle.std.specs.Prelude.{ℕ, ◌+◌, ◌-◌, ◌==◌, true, false, not, nat_lt, if◌then◌else◌, List, [], ◌∷◌, ◌++◌, length, take, drop, slice_index, Option, Some, None, Result, Ok, Err}
+use Rattle.byteorder.specs.Endian.{little_number}
+use Rattle.vs_log.specs.Events.{Event, time_of, kind_of, length_of, body_of, sort_of, limit}
+
+-- What the bodies of events mean, under the keyspace and the schema of the log.
+pub record Rules : Type 0 where
+  -- a query
+  pub statement : List ℕ → Result Statement Why
+  -- a PREVIOUS_GTIDS event
+  pub block : List ℕ → Result Position Why
+  -- what is wrong with a table map
+  pub map : List ℕ → Option Why
+  -- a rows event, by its kind, after these table maps
+  pub rows : List (List ℕ) → ℕ → List ℕ → Result (List Counted) Why
+
+infixl 10 ◌>>=◌
+abbrev pub ◌>>=◌ : {A B : Type 0} → Result A Why → (A → Result B Why) → Result B Why
+(Ok x) >>= f = f x
+(Err e) >>= f = Err e
+
+abbrev pub unless : {A : Type 0} → Option Why → A → Result A Why
+unless None x = Ok x
+unless (Some why) x = Err why
+
+-- what is wrong with a format description
+abbrev pub format_refusal : List ℕ → Option Why
+format_refusal body =
+    if nat_lt (length body) 62 then Some (BadEvent 15)
+    else if not (little_number 2 body == 4) then Some (BadVersion (little_number 2 body))
+    else if not (slice_index body 56 == 19) then Some (BadEvent 15)
+    else if not (slice_index body (length body - 5) == 0) then Some (Checksummed (slice_index body (length body - 5)))
+    else None
+
+abbrev pub or_refused : {A : Type 0} → Option A → Why → Result A Why
+or_refused None why = Err why
+or_refused (Some x) why = Ok x
+
+-- the GTID of a GTID event: a flag, 16 bytes of UUID, 8 bytes of number; what follows is not read
+unfoldable pub gtid_in : List ℕ → Result Gtid Why
+gtid_in body = if nat_lt (length body) 25 then Err (BadEvent 33) else or_refused (gtid_of (take 16 (drop 1 body)) (little_number 8 (drop 17 body))) BadGtid
+
+-- the work of a query that stands alone; BEGIN and XA don't
+abbrev pub single_work : Statement → Option Work
+single_work Begin = None
+single_work Xa = None
+single_work Commit = Some Other
+single_work Savepoint = Some Other
+single_work (Single work) = Some work
+
+-- the work with one thing more that counts: changes alone, or one journal alone
+abbrev pub one_more : Work → Counted → Option Work
+one_more (Rows changes) (Changed c) = Some (Rows (changes ++ c ∷ []))
+one_more (Rows []) (Journaled j) = Some (Journal j)
+one_more work counted = None
+
+-- the work with what a further rows event tells
+abbrev pub more_work : Work → List Counted → Option Work
+more_work work [] = Some work
+more_work work (c ∷ more) = elim (one_more work c) [ None ↦ None | Some next ↦ more_work next more ]
+
+-- the bytes of the entry that is open
+abbrev pub size : Place → ℕ
+size Front = 0
+size (Between first) = 0
+size (Named g bytes) = bytes
+size (Inside g bytes maps work) = bytes
+
+-- the bytes that the event's head makes: of its entry, or of itself where it is passed over
+abbrev pub sum_with : Place → Sort → ℕ → ℕ
+sum_with place PassedOver bytes = bytes
+sum_with place sort bytes = size place + bytes
+
+unfoldable pub bytes_with : Place → Event → ℕ
+bytes_with place e = sum_with place (sort_of e) (length_of e)
+
+-- the entry ends with the event
+abbrev pub ended : State → Event → Gtid → Work → State
+ended s e g work = record s { entries = s.entries ++ record { gtid = g; time = time_of e; work = work } ∷ []; place = Between false }
+
+abbrev pub with_base : State → Position → State
+with_base s set = record s { base = set; known = set; place = Between false }
+
+-- the GTID of an event behind the GTIDs known before it
+abbrev pub new_gtid : Position → List ℕ → Result Gtid Why
+new_gtid known body =
+    gtid_in body >>= λ g.
+    if has known g then Err (RepeatedGtid g)
+    else if nat_lt 1024 (length (added known g)) then Err TooManyIntervals
+    else Ok g
+
+-- it begins an entry
+abbrev pub named : State → Event → Gtid → State
+named s e g = record s { known = added s.known g; place = Named g (length_of e) }
+
+-- a query behind a GTID event
+abbrev pub first_query : State → Event → Gtid → ℕ → Statement → Result State Why
+first_query s e g bytes Begin = Ok (record s { place = Inside g (bytes + length_of e) [] (Rows []) })
+first_query s e g bytes Xa = Err UnsupportedStatement
+first_query s e g bytes Commit = Ok (ended s e g Other)
+first_query s e g bytes Savepoint = Ok (ended s e g Other)
+first_query s e g bytes (Single work) = Ok (ended s e g work)
+
+-- a query inside a transaction
+abbrev pub later_query : State → Event → Gtid → ℕ → List (List ℕ) → Work → Statement → Result State Why
+later_query s e g bytes maps work Commit = Ok (ended s e g work)
+later_query s e g bytes maps work Savepoint = Ok (record s { place = Inside g (bytes + length_of e) maps work })
+later_query s e g bytes maps work Begin = Err NestedBegin
+later_query s e g bytes maps work Xa = Err UnsupportedStatement
+later_query s e g bytes maps work (Single single) = Err UnsupportedStatement
+
+-- the rows go to the work
+abbrev pub told : State → Event → Gtid → ℕ → List (List ℕ) → Option Work → Result State Why
+told s e g bytes maps None = Err JournalNotAlone
+told s e g bytes maps (Some work) = Ok (record s { place = Inside g (bytes + length_of e) maps work })
+
+abbrev pub line : Rules → State → Event → Place → Sort → Result State Why
+line rules s e Front FormatEvent = unless (format_refusal (body_of e)) (record s { place = Between true })
+line rules s e Front sort = Err NoFormat
+line rules s e place AnonymousEvent = Err Anonymous
+line rules s e place PassedOver = Ok s
+line rules s e (Between true) PreviousEvent = rules.block (body_of e) >>= λ set. Ok (with_base s set)
+line rules s e place FormatEvent = Err (BadOrder (kind_of e))
+line rules s e place PreviousEvent = Err (BadOrder (kind_of e))
+line rules s e place ForeignEvent = Err (Unsupported (kind_of e))
+line rules s e (Between first) GtidEvent = new_gtid s.known (body_of e) >>= λ g. Ok (named s e g)
+line rules s e (Between first) sort = Err (BadOrder (kind_of e))
+line rules s e (Named g bytes) QueryEvent = rules.statement (body_of e) >>= first_query s e g bytes
+line rules s e (Named g bytes) sort = Err (BadOrder (kind_of e))
+line rules s e (Inside g bytes maps work) QueryEvent = rules.statement (body_of e) >>= later_query s e g bytes maps work
+line rules s e (Inside g bytes maps work) XidEvent = if nat_lt (length (body_of e)) 8 then Err (BadEvent 16) else Ok (ended s e g work)
+line rules s e (Inside g bytes maps work) MapEvent = unless (rules.map (body_of e)) (record s { place = Inside g (bytes + length_of e) (maps ++ body_of e ∷ []) work })
+line rules s e (Inside g bytes maps work) RowsEvent = rules.rows maps (kind_of e) (body_of e) >>= λ counted. told s e g bytes maps (more_work work counted)
+line rules s e (Inside g bytes maps work) sort = Err (BadOrder (kind_of e))
+
+-- What an event makes of a log that stands so, or what is wrong with it. Its size comes first.
+unfoldable pub step : Rules → State → Event → Result State Why
+step rules s e = if nat_lt limit (bytes_with s.place e) then Err (TooLarge (bytes_with s.place e)) else line rules s e s.place (sort_of e)

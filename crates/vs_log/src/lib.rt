@@ -1,0 +1,9 @@
+//! What the bytes of a binlog mean: by productions over whole texts, and by a table of its events.
+//! What the bodies of some events mean is a parameter. The format is MySQL's binlog, version 4.
+#![tactic(auto)]
+
+mod event;
+mod state;
+
+pub use event::Sort;
+pub use state::{Counted, Place, State, Statement};
