@@ -1,0 +1,5 @@
+pub mod Counts
+pub mod Told
+pub mod Names
+pub mod Clusters
+pub mod Reads
