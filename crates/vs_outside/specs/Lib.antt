@@ -3,3 +3,5 @@ pub mod Told
 pub mod Names
 pub mod Clusters
 pub mod Reads
+pub mod Times
+pub mod Scripts
