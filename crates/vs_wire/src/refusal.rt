@@ -1,0 +1,28 @@
+use thiserror::Error;
+
+/// What is wrong with a number or a field, without its place.
+#[derive(Debug, Clone, Copy, PartialEq, Eq)]
+pub enum Flaw {
+    Cut,
+    Long,
+    BadKind(u8),
+    ZeroField,
+}
+
+/// Why some bytes are no message. `at` is where the tag of the bad field begins or, for a number
+/// that is read by itself, where the number begins.
+#[derive(Debug, Clone, Copy, PartialEq, Eq, Error)]
+pub enum WireRefusal {
+    /// The bytes end inside the field.
+    #[error("the field at {at} is cut off")]
+    Cut { at: usize },
+    /// A number has no end in its first ten bytes, or a tag is 2^32 or more.
+    #[error("the field at {at} has a number that is too long")]
+    LongVarint { at: usize },
+    /// The wire type isn't 0, 1, 2 or 5.
+    #[error("the field at {at} has the wire type {kind}")]
+    BadWireType { at: usize, kind: u8 },
+    /// The field's number is 0.
+    #[error("the field at {at} has the number 0")]
+    ZeroField { at: usize },
+}
