@@ -1,0 +1,6 @@
+//! The program `vstreamd`: the change stream of a shard, on standard output.
+#![tactic(auto)]
+
+mod frame;
+
+fn main() {}
