@@ -1,3 +1,6 @@
+ghost use Rattle.std.specs.Prelude.{◌≡◌};
+ghost use Rattle.vs_wire.specs.Seen.{refusal};
+
 use thiserror::Error;
 
 /// What is wrong with a number or a field, without its place.
@@ -25,4 +28,17 @@ pub enum WireRefusal {
     /// The field's number is 0.
     #[error("the field at {at} has the number 0")]
     ZeroField { at: usize },
+}
+
+impl WireRefusal {
+    pub(crate) fn new(at: usize, flaw: Flaw) -> WireRefusal
+        ensures { result ≡ refusal at flaw }
+    {
+        match flaw {
+            Flaw::Cut => WireRefusal::Cut { at },
+            Flaw::Long => WireRefusal::LongVarint { at },
+            Flaw::BadKind(kind) => WireRefusal::BadWireType { at, kind },
+            Flaw::ZeroField => WireRefusal::ZeroField { at },
+        }
+    }
 }
