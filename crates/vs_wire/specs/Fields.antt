@@ -22,8 +22,8 @@ pub record Placed : Type 0 where
 abbrev pub bytes_in : ℕ → List ℕ → Result (List ℕ) Flaw
 bytes_in n bytes = if nat_lt (length bytes) n then Err flaws.Cut else Ok (take n bytes)
 
-abbrev pub plain_in : List ℕ → Result (Value × ℕ) Flaw
-plain_in bytes = varint_in bytes >>= λ n. Ok (number n.0, n.1)
+abbrev pub varint_value_in : List ℕ → Result (Value × ℕ) Flaw
+varint_value_in bytes = varint_in bytes >>= λ n. Ok (number n.0, n.1)
 
 abbrev pub fixed64_in : List ℕ → Result (Value × ℕ) Flaw
 fixed64_in bytes = bytes_in 8 bytes >>= λ b. Ok (fixed64 b, 8)
@@ -38,7 +38,7 @@ sized_in bytes = varint_in bytes >>= λ n. bytes_in n.0 (drop n.1 bytes) >>= λ 
 -- the value of this kind at the front, and how many bytes it takes
 unfoldable pub value_in : ℕ → List ℕ → Result (Value × ℕ) Flaw
 value_in kind bytes =
-    if kind == 0 then plain_in bytes
+    if kind == 0 then varint_value_in bytes
     else (if kind == 1 then fixed64_in bytes
     else (if kind == 2 then sized_in bytes
     else (if kind == 5 then fixed32_in bytes

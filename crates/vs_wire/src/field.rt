@@ -1,12 +1,12 @@
 ghost use Rattle.std.specs.Prelude.{◌≡◌, ◌≤◌, IfOk, length};
-ghost use Rattle.vs_wire.specs.Fields.{bytes_in, field_in, fixed32_in, fixed64_in, plain_in, sized_in, tag_in, value_in};
+ghost use Rattle.vs_wire.specs.Fields.{bytes_in, field_in, fixed32_in, fixed64_in, varint_value_in, sized_in, tag_in, value_in};
 ghost use Rattle.vs_wire.specs.Seen.{Gives, seen_value};
 
 use crate::Flaw;
 use crate::varint::read_varint;
 
 /// A field of a message. `at` is where its tag begins, counted from the message's front.
-#[derive(Debug, Clone, Copy)]
+#[derive(Debug, Clone, Copy, PartialEq, Eq)]
 pub struct Field<'a> {
     pub number: u32,
     pub at: usize,
@@ -14,7 +14,7 @@ pub struct Field<'a> {
 }
 
 /// The value of a field, by wire type. The fixed ones are little-endian as they stand.
-#[derive(Debug, Clone, Copy)]
+#[derive(Debug, Clone, Copy, PartialEq, Eq)]
 pub enum FieldValue<'a> {
     Varint(u64),
     Fixed64([u8; 8]),
@@ -63,7 +63,7 @@ fn read_value<'a>(kind: u8, bytes: &'a [u8]) -> Result<(FieldValue<'a>, usize), 
 }
 
 fn read_number<'a>(bytes: &'a [u8]) -> Result<(FieldValue<'a>, usize), Flaw>
-    ensures value { Gives (λ v. (seen_value v.0, v.1)) result (plain_in bytes.now) }
+    ensures value { Gives (λ v. (seen_value v.0, v.1)) result (varint_value_in bytes.now) }
     ensures within { IfOk result (λ v. v.1 ≤ length bytes.now) }
 {
     let (n, taken) = read_varint(bytes)?;

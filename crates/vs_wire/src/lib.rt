@@ -18,3 +18,6 @@ pub use varint::{get_varint, law_varint, put_varint, varint_len};
 
 /// The one fault of a call that only takes memory.
 pub type OutOfMemory = std::alloc::AllocError;
+
+#[cfg(test)]
+mod tests;
