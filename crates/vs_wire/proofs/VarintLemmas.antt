@@ -69,22 +69,22 @@ spelled_whole base s out new n rest h whole e f =
 
 -- ---- the spelling is read again
 
-number_in-last : (k b : ℕ) (bytes : List ℕ) → b < 128 → number_in (suc k) (b ∷ bytes) ≡ Ok (b, 1)
+pub number_in-last : (k b : ℕ) (bytes : List ℕ) → b < 128 → number_in (suc k) (b ∷ bytes) ≡ Ok (b, 1)
 unfolding number_in
 number_in-last k b bytes h = rw lt-ltb refl
 
-number_in-more : (k b : ℕ) (bytes : List ℕ) → 128 ≤ b →
+pub number_in-more : (k b : ℕ) (bytes : List ℕ) → 128 ≤ b →
     number_in (suc k) (b ∷ bytes) ≡ (number_in k bytes >>= λ high. Ok (b - 128 + 128 * high.0, high.1 + 1))
 unfolding number_in
 number_in-more k b bytes h = rw le-ltb refl
 
-abbrev found : ℕ → ℕ → Result (ℕ × ℕ) Flaw
+abbrev pub found : ℕ → ℕ → Result (ℕ × ℕ) Flaw
 found n taken = Ok (n, taken)
 
 abbrev Read : ℕ → List ℕ → ℕ → ℕ → Type 0
 Read k bytes n taken = number_in k bytes ≡ found n taken
 
-alike : (n n' taken taken' : ℕ) → n ≡ n' → taken ≡ taken' → ◌≡◌ {A = ℕ × ℕ} (n, taken) (n', taken')
+pub alike : (n n' taken taken' : ℕ) → n ≡ n' → taken ≡ taken' → ◌≡◌ {A = ℕ × ℕ} (n, taken) (n', taken')
 alike n n' taken taken' e f = cc
 
 one_more : (k b : ℕ) (bytes : List ℕ) (n taken : ℕ) → 128 ≤ b → Read k bytes n taken →
@@ -116,7 +116,7 @@ FitsGroups k n taken = (n < 128 ^ taken) × (0 < taken) × (taken ≤ k)
 abbrev IsByte : ℕ → Type 0
 IsByte b = b < 256
 
-same_parts : (a b n taken : ℕ) → found a b ≡ found n taken → (a ≡ n) × (b ≡ taken)
+pub same_parts : (a b n taken : ℕ) → found a b ≡ found n taken → (a ≡ n) × (b ≡ taken)
 same_parts a b n taken e =
     let pair : ◌≡◌ {A = ℕ × ℕ} (a, b) (n, taken) = cc in
     (ap (λ p. p.0) pair, ap (λ p. p.1) pair)

@@ -1,5 +1,11 @@
 ghost use Rattle.std.specs.Prelude.{
   ◌≡◌,
+  ◌+◌,
+  ◌*◌,
+  ◌%◌,
+  if◌then◌else◌,
+  nat_lt,
+  Err,
   ◌≤◌,
   ◌<◌,
   ◌^◌,
@@ -7,15 +13,18 @@ ghost use Rattle.std.specs.Prelude.{
   ℕ,
   List,
   Ok,
+  IfOk,
   OnErr,
   OnOk,
   length,
   take,
   All,
 };
+ghost use Rattle.vs_wire.specs.Seen.{refused_at};
+ghost use Rattle.vs_wire.specs.declared.refusal.Flaw.{Flaw};
 ghost use Rattle.vs_wire.specs.Varint.{varint, varint_in};
 
-use crate::OutOfMemory;
+use crate::{Flaw, OutOfMemory, WireRefusal};
 use std::alloc::Global;
 
 /// Appends the shortest spelling of a number: 1 to 10 bytes.
@@ -58,6 +67,49 @@ pub fn varint_len(n: u64) -> usize
         rest /= 128;
     }
     len
+}
+
+/// Reads the number at the front, of at most ten bytes, and how many bytes it takes. Bits past the
+/// 64th are dropped.
+pub fn get_varint(bytes: &[u8]) -> Result<(u64, usize), WireRefusal>
+    ensures value { result ≡ refused_at 0 (varint_in bytes.now) }
+    ensures within { IfOk result (λ found. (0 < found.1) × (found.1 ≤ length bytes.now)) }
+{
+    match read_varint(bytes) {
+        Ok(found) => Ok(found),
+        Err(flaw) => Err(WireRefusal::new(0, flaw)),
+    }
+}
+
+pub(crate) fn read_varint(bytes: &[u8]) -> Result<(u64, usize), Flaw>
+    ensures value { result ≡ varint_in bytes.now }
+    ensures within { IfOk result (λ found. (0 < found.1) × (found.1 ≤ length bytes.now)) }
+{
+    let mut low = 0u64;
+    let mut weight = 1u64;
+    for (i, byte) in bytes.iter().enumerate() {
+        if i == 9 {
+            return last_group(low, *byte);
+        }
+        let group = *byte as u64;
+        if group < 128 {
+            return Ok((low + group * weight, i + 1));
+        }
+        low += (group - 128) * weight;
+        weight *= 128;
+    }
+    Err(Flaw::Cut)
+}
+
+/// The number of nine groups and this last one, of which only the lowest bit counts.
+fn last_group(low: u64, byte: u8) -> Result<(u64, usize), Flaw>
+    requires { low < 2 ^ 63 }
+    ensures { result ≡ (if nat_lt byte 128 then Ok (low + 2 ^ 63 * (byte % 2), 10) else Err Flaw.Long) }
+{
+    if byte >= 128 {
+        return Err(Flaw::Long);
+    }
+    Ok((low + (byte % 2) as u64 * 0x8000_0000_0000_0000, 10))
 }
 
 /// The spelling of a number is read again, whatever follows, and no other has fewer bytes.
