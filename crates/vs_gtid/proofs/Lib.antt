@@ -1,2 +1,3 @@
-pub mod Order
+pub mod EqualSets
 pub mod JoinLemmas
+pub mod Order
