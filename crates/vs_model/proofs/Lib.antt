@@ -1,2 +1,5 @@
 mod Lists
 mod Entries
+mod Places
+mod Sent
+mod OneStep
