@@ -3,3 +3,4 @@ mod Entries
 mod Places
 mod Sent
 mod OneStep
+mod Runs
