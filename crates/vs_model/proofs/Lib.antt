@@ -4,3 +4,4 @@ mod Places
 mod Sent
 mod OneStep
 mod Runs
+mod Examples

@@ -2,6 +2,9 @@
 //! The filter is a parameter, and so is the meaning of a log's bytes.
 #![tactic(auto)]
 
+#[cfg(test)]
+mod tests;
+
 ghost use Rattle.std.specs.Prelude.{◌≡◌, ◌++◌, List, ℕ};
 ghost use Rattle.vs_base.specs.declared.ShardName.{ShardName};
 ghost use Rattle.vs_gtid.specs.declared.Entry.{Entry};
