@@ -5,3 +5,4 @@ mod Sent
 mod OneStep
 mod Runs
 mod Examples
+mod Resumed
