@@ -1,0 +1,3 @@
+pub mod EqualSets
+pub mod JoinLemmas
+pub mod Order
