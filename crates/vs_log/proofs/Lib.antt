@@ -1,3 +1,5 @@
 pub mod Moves
 pub mod Shapes
 pub mod Sound
+pub mod Cuts
+pub mod Follows
