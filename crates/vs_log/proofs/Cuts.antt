@@ -81,8 +81,8 @@ pub cut_more : (bytes : List ℕ) (events : List Event) (rest e more : List ℕ)
     (4 + length (joined events)) + length e ≤ last_place → IsCut bytes (events ++ e ∷ []) more
 cut_more bytes events rest e more c are is short = record {
   are =
-    c.are ∙ ap (λ z. magic ++ (joined events ++ z)) are
-    ∙ ap (λ z. magic ++ z) (sym (append_assoc (joined events) e more) ∙ ap (λ z. z ++ more) (sym (joined_more events e)));
+      c.are ∙ ap (λ z. magic ++ (joined events ++ z)) are
+      ∙ ap (λ z. magic ++ z) (sym (append_assoc (joined events) e more) ∙ ap (λ z. z ++ more) (sym (joined_more events e)));
   whole = all_more IsEvent events e c.whole is;
   short = omega (arith, ap length (joined_more events e), length-append (joined events) e, short);
 }

@@ -73,9 +73,9 @@ turned rules bytes n events at s rest (Err why) c b p l h t goes =
 turn : (rules : Rules) (bytes : List ℕ) (n : ℕ) (events : List Event) (at : ℕ) (s : State) (rest : List ℕ) (whole : Bool) → IsCut bytes events rest → Begins rules events s →
     at ≡ 4 + length (joined events) → length rest < suc n → is_held at rest ≡ whole → Goes rules bytes n →
     Parts rules bytes (
-      if whole
-      then (elim (step rules s (take (length_of rest) rest)) [ Ok next ↦ follow n rules (at + length_of rest) next (drop (length_of rest) rest) | Err why ↦ log_of s at (Some why) ])
-      else log_of s at (head_refusal at s.place rest)
+    if whole
+    then (elim (step rules s (take (length_of rest) rest)) [ Ok next ↦ follow n rules (at + length_of rest) next (drop (length_of rest) rest) | Err why ↦ log_of s at (Some why) ])
+    else log_of s at (head_refusal at s.place rest)
     )
 turn rules bytes n events at s rest true c b p l h goes = turned rules bytes n events at s rest (step rules s (take (length_of rest) rest)) c b p l h refl goes
 turn rules bytes n events at s rest false c b p l h goes = stopped rules bytes events at s rest _ c b p h refl

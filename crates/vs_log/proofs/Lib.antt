@@ -3,3 +3,4 @@ pub mod Shapes
 pub mod Sound
 pub mod Cuts
 pub mod Follows
+pub mod Distinct
