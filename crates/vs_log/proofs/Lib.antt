@@ -4,3 +4,5 @@ pub mod Sound
 pub mod Cuts
 pub mod Follows
 pub mod Distinct
+pub mod Takes
+pub mod Complete
