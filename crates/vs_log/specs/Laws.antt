@@ -4,7 +4,7 @@ use Rattle.std.specs.Prelude.{false, ◌≡◌, ◌≤◌, length, take, ◌⊎�
 use Rattle.vs_base.specs.declared.Why.{Why}
 use Rattle.vs_gtid.specs.declared.Entry.{Entry}
 use Rattle.vs_gtid.specs.Logs.{Log, HaveDistinctGtids}
-use Rattle.vs_gtid.specs.Positions.{Position, IsCanonical, has}
+use Rattle.vs_gtid.specs.Positions.{Position, has}
 use Rattle.vs_log.specs.declared.state.State.{State}
 use Rattle.vs_log.specs.Events.{Event}
 use Rattle.vs_log.specs.Table.{Rules, step, ◌>>=◌}
@@ -48,7 +48,3 @@ pub record IsOfWholeLog (rules : Rules) (bytes : List ℕ) : Type 0 where
 pub record HasNewGtids (log : Log) : Type 0 where
   pub distinct : HaveDistinctGtids log.entries
   pub lacking : AllByRecursion (λ e. has log.base e.gtid ≡ false) log.entries
-
--- the bases that the rules read are canonical
-abbrev pub ReadsCanonicalBases : Rules → Type 0
-ReadsCanonicalBases rules = (body : List ℕ) (base : Position) → rules.block body ≡ Ok base → IsCanonical base

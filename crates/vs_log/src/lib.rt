@@ -3,7 +3,9 @@
 #![tactic(auto)]
 
 mod event;
+mod laws;
 mod state;
 
 pub use event::Sort;
+pub use laws::law_distinct;
 pub use state::{Counted, Place, State, Statement};

@@ -1,0 +1,8 @@
+pub mod Moves
+pub mod Shapes
+pub mod Sound
+pub mod Cuts
+pub mod Follows
+pub mod Distinct
+pub mod Takes
+pub mod Complete
