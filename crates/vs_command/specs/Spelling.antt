@@ -72,12 +72,16 @@ event_bytes s time (VectorAfter v) = optional_number 1 15 ++ optional_number 2 t
 event_bytes s time (Statement text) = optional_number 1 5 ++ optional_number 2 time ++ optional_text 4 text ++ optional_text 22 s.keyspace ++ optional_text 23 s.shard
 event_bytes s time OtherStatement = optional_number 1 11 ++ optional_number 2 time ++ optional_text 22 s.keyspace ++ optional_text 23 s.shard
 
--- the events of a transaction, of the kinds that are built
+-- the event that ends a transaction's frame, of the kinds that are built
+abbrev pub closing_of : Work → Option Said
+closing_of (Ddl text) = Some (Statement text)
+closing_of Other = Some OtherStatement
+closing_of (Rows changes) = None
+closing_of (Journal j) = None
+
+-- the events of a transaction: the vector after it, and the statement
 abbrev pub events_of : Work → Vector → Option (List Said)
-events_of (Ddl text) v = Some (VectorAfter v ∷ (Statement text ∷ []))
-events_of Other v = Some (VectorAfter v ∷ (OtherStatement ∷ []))
-events_of (Rows changes) v = None
-events_of (Journal j) v = None
+events_of work v = option_map (λ closing. VectorAfter v ∷ (closing ∷ [])) (closing_of work)
 
 -- the message of some events
 abbrev pub response_bytes : ShardName → ℕ → List Said → List ℕ

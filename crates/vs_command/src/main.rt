@@ -2,5 +2,6 @@
 #![tactic(auto)]
 
 mod frame;
+mod sending;
 
 fn main() {}
