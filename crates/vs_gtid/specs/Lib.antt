@@ -1,3 +1,4 @@
 pub mod Joins
+pub mod Missing
 pub mod Positions
 pub mod Text
