@@ -1,15 +1,14 @@
 -- How one GTID more comes into a canonical list: where its interval stands, and which intervals become one with it.
-use Rattle.std.proofs.Common.{◌≡◌, ℕ, zero, suc, ◌+◌, ◌<◌, ◌≤◌, ◌⊎◌, ◌&&◌, ◌||◌, Bool, true, false, List, [], ◌∷◌, ◌++◌, length, take, drop, set, get_or, refl, ap, sym, subst, ◌∙◌, inl, inr, max, min, insert, add-one, add-zero, length-drop, get_or-drop, arith}
-use Rattle.std.proofs.lemmas.Bool.{cases_Bool, or_from, or_left, or_right, and_from, lt-ltb, le-ltb, false_from_ne_true}
+use Rattle.std.proofs.Common.{◌≡◌, ℕ, zero, suc, ◌+◌, ◌<◌, ◌≤◌, ◌⊎◌, true, false, List, [], ◌∷◌, ◌++◌, length, take, drop, set, get_or, refl, ap, sym, subst, ◌∙◌, inl, inr, max, min, insert, add-one, add-zero, length-drop, get_or-drop, arith}
+use Rattle.std.proofs.lemmas.Bool.{cases_Bool, or_left, or_right, and_from, lt-ltb, false_from_ne_true}
 use Rattle.std.proofs.Math.Numerals.{one-add}
 use Rattle.std.proofs.lemmas.Slice.Eq.{bytes_eq-Decides}
-use Rattle.std.proofs.lemmas.Cmp.{nat_list_cmp_total}
 use Rattle.std.specs.Ordering.{nat_cmp, is_lt}
 use Rattle.std.specs.Cmp.Lexicographic.{slice_cmp}
 use Rattle.std.specs.List.{remove}
 use Rattle.std.specs.declared.cmp.Ordering.TheVariants.{Less}
 use Rattle.vs_gtid.specs.declared.interval.Interval.{Interval}
-use Rattle.vs_gtid.specs.Positions.{Position, StandsBefore, StandsBeforeFirst, IsCanonical, IsInterval}
+use Rattle.vs_gtid.specs.Positions.{Position, StandsBefore, StandsBeforeFirst, IsCanonical}
 use Rattle.vs_gtid.specs.Joins.{stands_before, hull, joined, place}
 use Rattle.vs_gtid.proofs.Order.{Before-trans, stands_before-is, not_less, meet}
 

@@ -1,4 +1,5 @@
 pub mod Joins
+pub mod Missing
 pub mod Positions
 pub mod Text
 pub mod Logs

@@ -2,6 +2,7 @@
 #![tactic(auto)]
 
 mod add;
+mod compare;
 mod entry;
 mod interval;
 mod journal;

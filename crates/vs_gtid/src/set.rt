@@ -10,7 +10,7 @@ use vs_base::Gtid;
 /// order, so equal sets are equal values. There are at most 1,024 of them.
 #[derive(Debug, Drop)]
 pub struct GtidSet {
-    intervals: Vec<Interval>,
+    pub(crate) intervals: Vec<Interval>,
 }
 
 impl Model for GtidSet {

@@ -1,4 +1,4 @@
-use Rattle.std.proofs.Common.{◌≡◌, ◌<◌, ◌≤◌, ◌+◌, ◌++◌, ℕ, true, false, sym, ap, subst, ◌∙◌, length, take, drop, get_or, insert, List, arith}
+use Rattle.std.proofs.Common.{◌≡◌, ◌<◌, ◌≤◌, ◌++◌, ℕ, true, sym, ap, subst, ◌∙◌, length, take, drop, get_or, insert, List, arith}
 use Rattle.std.proofs.lemmas.List.{get_or_read}
 use Rattle.std.proofs.lemmas.List.Edits.{length-insert}
 use Rattle.vs_gtid.specs.declared.interval.Interval.{Interval}

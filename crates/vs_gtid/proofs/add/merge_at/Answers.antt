@@ -1,7 +1,7 @@
-use Rattle.std.proofs.Common.{◌≡◌, ◌≤◌, ◌<◌, ◌+◌, suc, sym, ap, subst, ◌∙◌, length, take, drop, get_or, arith, true, false}
+use Rattle.std.proofs.Common.{◌≡◌, ◌<◌, ◌+◌, sym, ap, subst, ◌∙◌, length, arith, true}
 use Rattle.std.proofs.lemmas.List.{get_or_read}
 use Rattle.vs_gtid.specs.declared.interval.Interval.{Interval}
-use Rattle.vs_gtid.specs.Joins.{joined, stands_before, hull}
+use Rattle.vs_gtid.specs.Joins.{stands_before, hull}
 use Rattle.vs_gtid.proofs.AddLemmas.{merged_pair, merged_alone}
 use Rattle.vs_gtid.proofs.add.merge_at.Goals as goal
 use Rattle.vs_gtid.proofs.add.merge_at.Goals.{else-at-len-via-then-at-len+else-not-stands_before, else-at-len-via-else-at-len}

@@ -1,4 +1,4 @@
-use Rattle.std.proofs.Common.{◌≡◌, ◌-◌, ◌≤◌, ℕ, suc, sym, ap, ◌∙◌, subst, get_or, length, [], ◌<◌, true, arith}
+use Rattle.std.proofs.Common.{◌≡◌, ◌-◌, ℕ, sym, ap, ◌∙◌, subst, get_or, length, [], ◌<◌, true, arith}
 use Rattle.std.proofs.lemmas.List.{get_or_default}
 use Rattle.vs_gtid.proofs.AddLemmas.{place_is}
 use Rattle.vs_gtid.specs.declared.interval.Interval.{Interval}

@@ -1,0 +1,18 @@
+use Rattle.std.proofs.Common.{◌-◌, ◌≤◌, length}
+use Rattle.vs_log.specs.Events.{last_place}
+use Rattle.vs_entries.specs.Reading.{state_of}
+use Rattle.vs_entries.specs.Rules.{rules_of}
+use Rattle.vs_entries.proofs.Walk.{Goes}
+use Rattle.vs_entries.proofs.log.read_log.Given as goal
+
+-- what the log means follows from where the reader stands
+abbrev pub invariant-turns : goal.invariant-turns
+invariant-turns l = record {
+  goes : Goes (rules_of l.keyspace) l.log l.at (state_of l.reader);
+  within : l.at ≤ length l.log;
+  early : l.at ≤ last_place;
+}
+
+-- what is left of the log
+abbrev pub decreases-turns : goal.decreases-turns
+decreases-turns l = length l.log - l.at

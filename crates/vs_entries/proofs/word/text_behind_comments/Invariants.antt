@@ -1,0 +1,9 @@
+use Rattle.std.proofs.Common.{◌≡◌, ◌≤◌, length, drop, ◌-◌, false}
+use Rattle.vs_log.specs.Queries.{behind}
+use Rattle.vs_entries.proofs.word.text_behind_comments.Given as goal
+
+abbrev pub invariant-loop-at : goal.invariant-loop-at
+invariant-loop-at l = (l.at ≤ length l.text) × (behind l.inside (drop l.at l.text) ≡ behind false l.text)
+
+abbrev pub decreases-loop-at : goal.decreases-loop-at
+decreases-loop-at l = length l.text - l.at

@@ -1,0 +1,94 @@
+-- How a reader stands for a state of a log's table, and what its answers say of the log's meaning.
+use Rattle.std.specs.Prelude.{◌≡◌, ◌≤◌, ◌<◌, ◌+◌, ℕ, if◌then◌else◌, List, length, take, drop, Option, Some, None, Result, Ok, Err}
+use Rattle.vs_base.specs.declared.Gtid.{Gtid}
+use Rattle.vs_base.specs.declared.Why.{Why}
+use Rattle.vs_base.specs.declared.Why.TheVariants.{NotBuilt, UnsupportedStatement}
+use Rattle.vs_gtid.specs.declared.Work.{Work}
+use Rattle.vs_gtid.specs.declared.Work.TheVariants.{Other}
+use Rattle.vs_gtid.specs.Logs.{Log}
+use Rattle.vs_log.specs.declared.state.Statement.{Statement}
+use Rattle.vs_log.specs.declared.state.Statement.TheVariants.{Begin, Commit, Savepoint, Xa, Single}
+use Rattle.vs_log.specs.declared.state.Place.{Place}
+use Rattle.vs_log.specs.declared.state.Place.TheVariants.{Front, Between, Named}
+use Rattle.vs_log.specs.declared.state.State.{State}
+use Rattle.vs_log.specs.Events.{Event, body_of, length_of, is_held, last_place}
+use Rattle.vs_log.specs.Table.{Rules, step, with_base, new_gtid, named, ended, ◌>>=◌}
+use Rattle.vs_log.specs.Queries.{statement_of}
+use Rattle.vs_entries.specs.Rules.{block_in}
+use Rattle.vs_log.specs.Meaning.{head_refusal}
+use Rattle.vs_entries.specs.declared.log.LogFault.{LogFault}
+use Rattle.vs_entries.specs.declared.log.LogRead.{LogRead}
+use Rattle.vs_entries.specs.declared.reader.Reader.{Reader}
+use Rattle.vs_entries.specs.declared.reader.Standing.{Standing}
+use Rattle.vs_entries.specs.declared.reader.Standing.TheVariants.{AtFront, Apart, InEntry}
+use Rattle.vs_entries.specs.declared.reader.Turn.{Turn}
+use Rattle.vs_entries.specs.declared.reader.Turn.TheVariants.{Went, Ended}
+use Rattle.vs_entries.specs.declared.refusal.Refusal.{Refusal}
+use Rattle.vs_entries.specs.declared.refusal.Refusal.TheVariants.{Wrong, Memory}
+
+abbrev pub fault_of : Option LogFault → Option (ℕ × Why)
+fault_of None = None
+fault_of (Some fault) = Some (fault.offset, fault.why)
+
+-- a log as it is read
+abbrev pub read_as : LogRead → Log
+read_as read = record { base = read.base; entries = read.entries; fault = fault_of read.fault }
+
+-- the answer is what is meant, unless memory ran out
+abbrev pub Answers : {A : Type 0} → Result A Refusal → Result A Why → Type 0
+Answers (Ok x) meant = meant ≡ Ok x
+Answers (Err (Wrong why)) meant = meant ≡ Err why
+Answers (Err Memory) meant = Unit {0}
+
+abbrev pub place_of : Standing → Place
+place_of AtFront = Front
+place_of (Apart first) = Between first
+place_of (InEntry gtid bytes) = Named gtid bytes
+
+-- where the reader stands, as a state of the table
+abbrev pub state_of : Reader → State
+state_of reader = record { base = reader.base; entries = reader.entries; known = reader.known; place = place_of reader.standing }
+
+-- the reader took what it was meant to, or stayed as it was; unless memory ran out
+abbrev pub Takes : Result (Unit {0}) Refusal → Reader → Reader → Result State Why → Type 0
+Takes (Ok x) old new meant = meant ≡ Ok (state_of new)
+Takes (Err (Wrong why)) old new meant = (meant ≡ Err why) × (new ≡ old)
+Takes (Err Memory) old new meant = Unit {0}
+
+-- what a query that follows a GTID event did
+abbrev pub single_of : Result Statement Why → Result Work Why
+single_of (Ok Begin) = Err NotBuilt
+single_of (Ok Xa) = Err UnsupportedStatement
+single_of (Ok Commit) = Ok Other
+single_of (Ok Savepoint) = Ok Other
+single_of (Ok (Single work)) = Ok work
+single_of (Err why) = Err why
+
+-- the log with the base that a PREVIOUS_GTIDS event tells
+abbrev pub with_previous : State → Event → Result State Why
+with_previous s e = block_in (body_of e) >>= λ set. Ok (with_base s set)
+
+-- the log with an entry that a GTID event begins
+abbrev pub with_gtid : State → Event → Result State Why
+with_gtid s e = new_gtid s.known (body_of e) >>= λ g. Ok (named s e g)
+
+-- the log with the entry of this GTID, which a query ends
+abbrev pub with_query : List ℕ → State → Event → Gtid → Result State Why
+with_query keyspace s e g = single_of (statement_of keyspace (body_of e)) >>= λ work. Ok (ended s e g work)
+
+-- what the event at the front of the rest makes of a log that stands so; or that there is none, and what is wrong
+abbrev pub next_state : Rules → ℕ → State → List ℕ → Result State (Option Why)
+next_state rules at s rest =
+    if is_held at rest
+    then (elim (step rules s (take (length_of rest) rest)) [
+      | Ok next ↦ Ok next
+      | Err why ↦ Err (Some why)
+    ])
+    else Err (head_refusal at s.place rest)
+
+-- One turn of the reader over the bytes of a log from a place on: it goes on at a later place, or the log ends.
+abbrev pub Turned : Rules → List ℕ → ℕ → Reader → Reader → Turn → Type 0
+Turned rules log at old new (Went place) =
+    (next_state rules at (state_of old) (drop at log) ≡ Ok (state_of new))
+    × (place ≡ at + length_of (drop at log)) × (at < place) × (place ≤ length log) × (place ≤ last_place)
+Turned rules log at old new (Ended why) = (next_state rules at (state_of old) (drop at log) ≡ Err why) × (new ≡ old)

@@ -1,0 +1,15 @@
+//! Reads the bytes of a shard's log: its base, its transactions, and what is wrong with it.
+//!
+//! A log is a binlog file of MySQL, version 4. This release reads single statements; a transaction of
+//! rows is refused.
+#![tactic(auto)]
+
+mod body;
+mod event;
+mod log;
+mod query;
+mod reader;
+mod refusal;
+mod word;
+
+pub use log::{LogFault, LogRead, read_log};

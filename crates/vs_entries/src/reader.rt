@@ -1,0 +1,316 @@
+ghost use Rattle.std.specs.Prelude.{◌≡◌, ◌≤◌, ◌+◌, [], IfOk, MatchOption, false, length, take, true};
+ghost use Rattle.vs_log.specs.Events.{is_held, last_place, length_of, sort_of};
+ghost use Rattle.vs_log.specs.Meaning.{front, head_refusal, log_of};
+ghost use Rattle.vs_log.specs.Table.{bytes_with, line, size, step};
+
+use crate::body::{format_fault, read_block, read_gtid};
+use crate::event::{HEAD, kind, sort_in, time, total_length};
+use crate::log::{LogFault, LogRead};
+use crate::query::read_work;
+use crate::refusal::Refusal;
+use std::alloc::{AllocError, Global};
+use vs_base::{Gtid, List, OutOfMemory, Why};
+use vs_gtid::{Entry, GtidRefusal, GtidSet};
+use vs_log::Sort;
+
+/// The greatest number of bytes of an event, and of the events of an entry together.
+const LIMIT: u64 = 8_388_608;
+
+/// The place of a log by which each of its events ends.
+const LAST_PLACE: u64 = 4_611_686_018_427_387_904;
+
+/// Where a reader is, between two events.
+#[derive(Debug, Clone, Copy)]
+pub enum Standing {
+    /// before the format description
+    AtFront,
+    /// behind the format description or an entry; whether no event stood since the former
+    Apart { first: bool },
+    /// behind the GTID event of an entry, of so many bytes
+    InEntry { gtid: Gtid, bytes: u32 },
+}
+
+/// What a reader has of a log's events so far.
+#[derive(Debug, Drop)]
+pub struct Reader {
+    pub base: GtidSet,
+    pub entries: List<Entry>,
+    /// the base and all GTIDs that stood so far
+    pub known: GtidSet,
+    pub standing: Standing,
+}
+
+/// What a turn of a reader came to: it goes on at a place of the log, or the log ends where it stood.
+#[derive(Debug, Clone, Copy)]
+pub enum Turn {
+    Went { place: usize },
+    Ended { why: Option<Why> },
+}
+
+impl Standing {
+    ghost use Rattle.vs_entries.specs.Reading.{place_of};
+
+    /// The bytes of the entry that is open.
+    fn size(&self) -> u32
+        ensures { result ≡ size (place_of self.now) }
+    {
+        match self {
+            Standing::AtFront => 0,
+            Standing::Apart { .. } => 0,
+            Standing::InEntry { bytes, .. } => *bytes,
+        }
+    }
+
+    /// The bytes that an event makes with the entry that is open, or alone where it is passed over.
+    #[tactic(auto, unfolding(vs_log::specs::Table::bytes_with), using(crate::proofs::Lines::sum_with_counted))]
+    fn bytes_with(&self, event: &[u8]) -> u64
+        requires { 19 ≤ length event.now }
+        ensures { result ≡ bytes_with (place_of self.now) event.now }
+    {
+        match sort_in(event) {
+            Sort::PassedOver => total_length(event) as u64,
+            _ => self.size() as u64 + total_length(event) as u64,
+        }
+    }
+
+    /// What is wrong with an event of which not all bytes are there, by its head alone.
+    #[tactic(auto, unfolding(vs_log::specs::Meaning::head_refusal))]
+    fn head_fault(&self, rest: &[u8], at: usize) -> Option<Why>
+        requires { at ≤ last_place }
+        ensures { result ≡ head_refusal at (place_of self.now) rest.now }
+    {
+        if rest.len() < HEAD {
+            return None;
+        }
+        let length = total_length(rest);
+        if length < 19 {
+            return Some(Why::BadLength { length });
+        }
+        let bytes = self.bytes_with(rest);
+        if bytes > LIMIT {
+            return Some(Why::TooLarge { bytes });
+        }
+        if at as u64 + length as u64 > LAST_PLACE {
+            return Some(Why::TooLarge {
+                bytes: length as u64,
+            });
+        }
+        None
+    }
+}
+
+/// The event at the front of the rest, if all of it is there and it ends by the last place.
+#[tactic(auto, unfolding(vs_log::specs::Events::is_held))]
+fn front_event(rest: &[u8], at: usize) -> Option<&[u8]>
+    requires { at ≤ last_place }
+    ensures { MatchOption result (is_held at rest.now ≡ false) (λ e. (is_held at rest.now ≡ true) × (e.now ≡ take (length_of rest.now) rest.now) × (length e.now ≡ length_of rest.now) × (19 ≤ length e.now) × (length e.now ≤ length rest.now) × (at + length e.now ≤ last_place)) }
+{
+    if rest.len() < HEAD {
+        return None;
+    }
+    let length = total_length(rest);
+    if length < 19 {
+        return None;
+    }
+    if length as usize > rest.len() {
+        return None;
+    }
+    if at as u64 + length as u64 > LAST_PLACE {
+        return None;
+    }
+    Some(&rest[..length as usize])
+}
+
+impl Reader {
+    ghost use Rattle.vs_log.specs.declared.state.Place.TheVariants.{Between, Front, Named};
+    ghost use Rattle.vs_entries.specs.Reading.{Takes, Turned, read_as, state_of, with_gtid, with_previous, with_query};
+    ghost use Rattle.vs_entries.specs.Rules.{rules_of};
+
+    pub fn new(alloc: Global) -> Reader
+        ensures { state_of result ≡ front }
+    {
+        Reader {
+            base: GtidSet::new(alloc),
+            entries: List::new(alloc),
+            known: GtidSet::new(alloc),
+            standing: Standing::AtFront,
+        }
+    }
+
+    /// The log that ends so, as it was read.
+    pub fn end(self, at: usize, why: Option<Why>) -> LogRead
+        ensures { read_as result ≡ log_of (state_of self) at why }
+    {
+        let Reader { base, entries, .. } = self;
+        LogRead {
+            base,
+            entries,
+            fault: why.map(|why| LogFault {
+                offset: at as u64,
+                why,
+            }),
+        }
+    }
+
+    /// One turn over the bytes of a log from a place on.
+    pub fn take_turn(
+        &mut self,
+        alloc: Global,
+        log: &[u8],
+        at: usize,
+        keyspace: &[u8],
+    ) -> Result<Turn, OutOfMemory>
+        requires place { at ≤ length log.now }
+        requires early { at ≤ last_place }
+        ensures { IfOk result (λ turn. Turned (rules_of keyspace.now) log.now at self.old self.new turn) }
+    {
+        let rest = &log[at..];
+        match front_event(rest, at) {
+            None => Ok(Turn::Ended {
+                why: self.standing.head_fault(rest, at),
+            }),
+            Some(event) => match self.take(alloc, event, keyspace) {
+                Ok(()) => Ok(Turn::Went {
+                    place: at + event.len(),
+                }),
+                Err(Refusal::Wrong(why)) => Ok(Turn::Ended { why: Some(why) }),
+                Err(Refusal::Memory) => Err(AllocError),
+            },
+        }
+    }
+
+    /// Takes an event, or leaves all as it was.
+    #[tactic(auto, unfolding(vs_log::specs::Table::step))]
+    fn take(&mut self, alloc: Global, event: &[u8], keyspace: &[u8]) -> Result<(), Refusal>
+        requires { 19 ≤ length event.now }
+        ensures { Takes result self.old self.new (step (rules_of keyspace.now) (state_of self.old) event.now) }
+    {
+        let bytes = self.standing.bytes_with(event);
+        if bytes > LIMIT {
+            return Err(Refusal::Wrong(Why::TooLarge { bytes }));
+        }
+        match self.standing {
+            Standing::AtFront => self.take_first(event),
+            Standing::Apart { first } => self.take_apart(alloc, event, first),
+            Standing::InEntry { gtid, bytes } => self.take_in_entry(
+                alloc, event, keyspace, gtid, bytes,
+            ),
+        }
+    }
+
+    /// Takes the first event of a log.
+    #[tactic(auto, unfolding(vs_log::specs::Events::body_of), using(crate::proofs::Lines::line_front_other))]
+    fn take_first(&mut self, event: &[u8]) -> Result<(), Refusal>
+        requires { 19 ≤ length event.now }
+        ensures { Takes result self.old self.new (line (rules_of []) (state_of self.old) event.now Front (sort_of event.now)) }
+    {
+        match sort_in(event) {
+            Sort::FormatEvent => match format_fault(&event[HEAD..]) {
+                Some(why) => Err(Refusal::Wrong(why)),
+                None => {
+                    self.standing = Standing::Apart { first: true };
+                    Ok(())
+                }
+            },
+            _ => Err(Refusal::Wrong(Why::NoFormat)),
+        }
+    }
+
+    /// Takes an event between entries.
+    fn take_apart(&mut self, alloc: Global, event: &[u8], first: bool) -> Result<(), Refusal>
+        requires { 19 ≤ length event.now }
+        ensures { Takes result self.old self.new (line (rules_of []) (state_of self.old) event.now (Between first) (sort_of event.now)) }
+    {
+        match sort_in(event) {
+            Sort::AnonymousEvent => Err(Refusal::Wrong(Why::Anonymous)),
+            Sort::PassedOver => Ok(()),
+            Sort::PreviousEvent if first => self.take_base(alloc, event),
+            Sort::GtidEvent => self.take_gtid(event),
+            Sort::ForeignEvent => Err(Refusal::Wrong(Why::Unsupported { kind: kind(event) })),
+            _ => Err(Refusal::Wrong(Why::BadOrder { kind: kind(event) })),
+        }
+    }
+
+    /// Takes an event behind the GTID event of an entry.
+    fn take_in_entry(
+        &mut self,
+        alloc: Global,
+        event: &[u8],
+        keyspace: &[u8],
+        gtid: Gtid,
+        bytes: u32,
+    ) -> Result<(), Refusal>
+        requires { 19 ≤ length event.now }
+        ensures { Takes result self.old self.new (line (rules_of keyspace.now) (state_of self.old) event.now (Named gtid bytes) (sort_of event.now)) }
+    {
+        match sort_in(event) {
+            Sort::AnonymousEvent => Err(Refusal::Wrong(Why::Anonymous)),
+            Sort::PassedOver => Ok(()),
+            Sort::QueryEvent => self.take_query(alloc, event, keyspace, gtid),
+            Sort::ForeignEvent => Err(Refusal::Wrong(Why::Unsupported { kind: kind(event) })),
+            _ => Err(Refusal::Wrong(Why::BadOrder { kind: kind(event) })),
+        }
+    }
+
+    /// Takes a PREVIOUS_GTIDS event.
+    #[tactic(auto, unfolding(vs_log::specs::Events::body_of))]
+    fn take_base(&mut self, alloc: Global, event: &[u8]) -> Result<(), Refusal>
+        requires { 19 ≤ length event.now }
+        ensures { Takes result self.old self.new (with_previous (state_of self.old) event.now) }
+    {
+        let base = read_block(alloc, &event[HEAD..])?;
+        let known = base.copy(alloc)?;
+        self.base = base;
+        self.known = known;
+        self.standing = Standing::Apart { first: false };
+        Ok(())
+    }
+
+    /// Takes a GTID event, which begins an entry.
+    #[tactic(auto, unfolding(vs_log::specs::Events::body_of))]
+    fn take_gtid(&mut self, event: &[u8]) -> Result<(), Refusal>
+        requires { 19 ≤ length event.now }
+        ensures { Takes result self.old self.new (with_gtid (state_of self.old) event.now) }
+    {
+        let gtid = match read_gtid(&event[HEAD..]) {
+            Ok(gtid) => gtid,
+            Err(why) => return Err(Refusal::Wrong(why)),
+        };
+        if self.known.contains(&gtid) {
+            return Err(Refusal::Wrong(Why::RepeatedGtid { gtid }));
+        }
+        match self.known.add(gtid) {
+            Ok(()) => {
+                self.standing = Standing::InEntry {
+                    gtid,
+                    bytes: total_length(event),
+                };
+                Ok(())
+            }
+            Err(GtidRefusal::TooManyIntervals) => Err(Refusal::Wrong(Why::TooManyIntervals)),
+            Err(_) => Err(Refusal::Memory),
+        }
+    }
+
+    /// Takes a query event, which ends its entry.
+    #[tactic(auto, unfolding(vs_log::specs::Events::body_of))]
+    fn take_query(
+        &mut self,
+        alloc: Global,
+        event: &[u8],
+        keyspace: &[u8],
+        gtid: Gtid,
+    ) -> Result<(), Refusal>
+        requires { 19 ≤ length event.now }
+        ensures { Takes result self.old self.new (with_query keyspace.now (state_of self.old) event.now gtid) }
+    {
+        let work = read_work(alloc, &event[HEAD..], keyspace)?;
+        self.entries.push(Entry {
+            gtid,
+            time: time(event),
+            work,
+        })?;
+        self.standing = Standing::Apart { first: false };
+        Ok(())
+    }
+}
