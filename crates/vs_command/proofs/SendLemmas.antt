@@ -1,11 +1,11 @@
 -- The frames of one entry more, and what was written of them.
-use Rattle.std.proofs.Common.{◌≡◌, ◌≢◌, ℕ, suc, ◌+◌, ◌<◌, length, take, drop, get_or, List, [], ◌∷◌, ◌++◌, Option, Some, None, Err, refl, sym, ap, subst, ◌∙◌, append_assoc, append-nil}
+use Rattle.std.proofs.Common.{◌≡◌, ◌≢◌, ℕ, suc, ◌+◌, ◌<◌, length, take, drop, get_or, List, [], ◌∷◌, ◌++◌, Option, Some, None, Ok, Err, refl, sym, ap, subst, ◌∙◌, append_assoc, append-nil}
 use Rattle.std.proofs.lemmas.List.{take_more, take-append-drop}
 use Rattle.std.proofs.Math.Seq.{drop-cons}
 use Rattle.std.specs.Option.{option_map, option_and_then}
 use Rattle.vs_base.specs.declared.ShardName.{ShardName}
 use Rattle.vs_gtid.specs.declared.Entry.{Entry}
-use Rattle.vs_gtid.specs.Positions.{Position}
+use Rattle.vs_gtid.specs.Positions.{Position, IsCanonical}
 use Rattle.vs_gtid.specs.Joins.{added}
 use Rattle.vs_outside.specs.Told.{IsPrefixOf, Writes}
 use Rattle.vs_outside.proofs.ToldLemmas.{Writes-then, IsPrefixOf-refl, IsPrefixOf-behind}
@@ -13,7 +13,7 @@ use Rattle.vs_model.specs.Frames.{Frame}
 use Rattle.vs_command.specs.declared.sending.SendEnd.{SendEnd}
 use Rattle.vs_command.specs.declared.sending.SendEnd.TheVariants.{Memory, LinkFault, PositionTooLarge}
 use Rattle.vs_command.specs.Spelling.{frame_bytes, frames_bytes}
-use Rattle.vs_command.specs.Sending.{AreSent, AreSpelled, IsSent, next_frame, position_after, entry_frames}
+use Rattle.vs_command.specs.Sending.{AreSent, AreSpelled, IsCanonicalAlong, IsSent, next_frame, position_after, entry_frames}
 
 -- the bytes of the first frame, and of the others
 record IsParted (f : Frame) (fs : List Frame) (bytes : List ℕ) : Type 0 where
@@ -52,22 +52,32 @@ pub position_after-more : (p : Position) (xs : List Entry) (e : Entry) → posit
 position_after-more p [] e = refl
 position_after-more p (x ∷ xs) e = position_after-more (added p x.gtid) xs e
 
+pub IsCanonicalAlong-more : (p : Position) (xs : List Entry) (e : Entry) → IsCanonicalAlong p xs → IsCanonical (added (position_after p xs) e.gtid) → IsCanonicalAlong p (xs ++ e ∷ [])
+IsCanonicalAlong-more p [] e along next = (next, tt)
+IsCanonicalAlong-more p (x ∷ xs) e along next = (along.0, IsCanonicalAlong-more (added p x.gtid) xs e along.1 next)
+
+-- the frames of the first entries were written
+abbrev pub WroteFirst : ShardName → Position → List Entry → List ℕ → Type 0
+WroteFirst s p xs w = AreSpelled s p xs w × IsCanonicalAlong p xs
+
 -- a frame was written behind those of the first entries
 pub Writes-frame : (s : ShardName) (p q : Position) (xs : List Entry) (e : Entry) (before between now : Option (List ℕ)) →
-    q ≡ position_after p xs → Writes before between (λ w. AreSpelled s p xs w) → Writes between now (λ w. frame_bytes (next_frame s q e) ≡ Some w) →
-    Writes before now (λ w. AreSpelled s p (xs ++ e ∷ []) w)
+    q ≡ position_after p xs → Writes before between (WroteFirst s p xs) → Writes between now (IsSent s q e (Ok tt)) →
+    Writes before now (WroteFirst s p (xs ++ e ∷ []))
 Writes-frame s p q xs e before between now at first second =
-    Writes-then (λ w. AreSpelled s p xs w) (λ w. frame_bytes (next_frame s q e) ≡ Some w) (λ w. AreSpelled s p (xs ++ e ∷ []) w) before between now
-    (λ v w spelled next. AreSpelled-more s p xs e v w spelled (subst (λ r. frame_bytes (next_frame s r e) ≡ Some w) at next)) first second
+    Writes-then (WroteFirst s p xs) (IsSent s q e (Ok tt)) (WroteFirst s p (xs ++ e ∷ [])) before between now
+    (λ v w wrote sent.
+      let next : IsSent s (position_after p xs) e (Ok tt) w = subst (λ r. IsSent s r e (Ok tt) w) at sent in
+      (AreSpelled-more s p xs e v w wrote.0 next.0, IsCanonicalAlong-more p xs e wrote.1 next.1)) first second
 
 -- no frame was written behind those of the first entries
 cut_before : (s : ShardName) (p : Position) (xs rest : List Entry) (end : SendEnd) (before between now : Option (List ℕ)) →
-    Writes before between (λ w. AreSpelled s p xs w) → Writes between now (λ w. w ≡ []) → (end ≢ LinkFault) →
+    Writes before between (WroteFirst s p xs) → Writes between now (λ w. w ≡ []) → (end ≢ LinkFault) →
     Writes before now (λ w. AreSent s p (xs ++ rest) (Err end) w)
 cut_before s p xs rest end before between now first second other =
-    Writes-then (λ w. AreSpelled s p xs w) (λ w. w ≡ []) (λ w. AreSent s p (xs ++ rest) (Err end) w) before between now
-    (λ v w spelled none. record {
-      sent = xs; rest = rest; are = refl; bytes = v; spelled = spelled;
+    Writes-then (WroteFirst s p xs) (λ w. w ≡ []) (λ w. AreSent s p (xs ++ rest) (Err end) w) before between now
+    (λ v w wrote none. record {
+      sent = xs; rest = rest; are = refl; bytes = v; spelled = wrote.0; canonical = wrote.1;
       prefix = subst (λ l. IsPrefixOf l v) (sym (ap (λ l. v ++ l) none ∙ append-nil v)) (IsPrefixOf-refl v);
       whole = λ _. ap (λ l. v ++ l) none ∙ append-nil v;
       all = tt;
@@ -75,13 +85,15 @@ cut_before s p xs rest end before between now first second other =
 
 -- a beginning of a frame was written behind those of the first entries
 cut_within : (s : ShardName) (p q : Position) (xs rest : List Entry) (e : Entry) (before between now : Option (List ℕ)) →
-    q ≡ position_after p xs → Writes before between (λ w. AreSpelled s p xs w) → Writes between now (λ w. IsSent s q e (Err LinkFault) w) →
+    q ≡ position_after p xs → Writes before between (WroteFirst s p xs) → Writes between now (λ w. IsSent s q e (Err LinkFault) w) →
     Writes before now (λ w. AreSent s p (xs ++ e ∷ rest) (Err LinkFault) w)
 cut_within s p q xs rest e before between now at first second =
-    Writes-then (λ w. AreSpelled s p xs w) (λ w. IsSent s q e (Err LinkFault) w) (λ w. AreSent s p (xs ++ e ∷ rest) (Err LinkFault) w) before between now
-    (λ v w spelled cut. record {
+    Writes-then (WroteFirst s p xs) (λ w. IsSent s q e (Err LinkFault) w) (λ w. AreSent s p (xs ++ e ∷ rest) (Err LinkFault) w) before between now
+    (λ v w wrote sent.
+      let cut : IsSent s (position_after p xs) e (Err LinkFault) w = subst (λ r. IsSent s r e (Err LinkFault) w) at sent in record {
       sent = xs ++ e ∷ []; rest = rest; are = sym (append_assoc xs (e ∷ []) rest); bytes = v ++ cut.0;
-      spelled = AreSpelled-more s p xs e v cut.0 spelled (subst (λ r. frame_bytes (next_frame s r e) ≡ Some cut.0) at cut.1);
+      spelled = AreSpelled-more s p xs e v cut.0 wrote.0 cut.1;
+      canonical = IsCanonicalAlong-more p xs e wrote.1 cut.3;
       prefix = IsPrefixOf-behind v w cut.0 cut.2;
       whole = λ other. absurd (other refl);
       all = tt;
@@ -89,7 +101,7 @@ cut_within s p q xs rest e before between now at first second =
 
 -- what was written where the next entry was not sent
 pub Writes-cut_entry : (s : ShardName) (p q : Position) (xs rest : List Entry) (e : Entry) (end : SendEnd) (before between now : Option (List ℕ)) →
-    q ≡ position_after p xs → Writes before between (λ w. AreSpelled s p xs w) → Writes between now (λ w. IsSent s q e (Err end) w) →
+    q ≡ position_after p xs → Writes before between (WroteFirst s p xs) → Writes between now (λ w. IsSent s q e (Err end) w) →
     Writes before now (λ w. AreSent s p (xs ++ e ∷ rest) (Err end) w)
 Writes-cut_entry s p q xs rest e LinkFault before between now at first second = cut_within s p q xs rest e before between now at first second
 Writes-cut_entry s p q xs rest e Memory before between now at first second = cut_before s p xs (e ∷ rest) Memory before between now first second (λ h. cc)

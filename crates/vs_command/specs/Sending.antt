@@ -2,7 +2,7 @@
 use Rattle.std.specs.Prelude.{◌≡◌, ◌≢◌, ◌<◌, ℕ, length, List, [], ◌∷◌, ◌++◌, Some, Result, Ok, Err, OnOk}
 use Rattle.vs_base.specs.declared.ShardName.{ShardName}
 use Rattle.vs_gtid.specs.declared.Entry.{Entry}
-use Rattle.vs_gtid.specs.Positions.{Position}
+use Rattle.vs_gtid.specs.Positions.{Position, IsCanonical}
 use Rattle.vs_gtid.specs.Joins.{added}
 use Rattle.vs_outside.specs.Told.{IsPrefixOf}
 use Rattle.vs_model.specs.Vectors.{Vector}
@@ -35,10 +35,15 @@ entry_frames s p (e ∷ es) = next_frame s p e ∷ entry_frames s (added p e.gti
 abbrev pub AreSpelled : ShardName → Position → List Entry → List ℕ → Type 0
 AreSpelled s p entries bytes = frames_bytes (entry_frames s p entries) ≡ Some bytes
 
+-- the position after each entry is spelled in the one way
+abbrev pub IsCanonicalAlong : Position → List Entry → Type 0
+IsCanonicalAlong p [] = Unit {0}
+IsCanonicalAlong p (e ∷ es) = IsCanonical (added p e.gtid) × IsCanonicalAlong (added p e.gtid) es
+
 -- what was written as the frame of an entry was to be sent
 abbrev pub IsSent : ShardName → Position → Entry → Result (Unit {0}) SendEnd → List ℕ → Type 0
-IsSent s p e (Ok x) w = frame_bytes (next_frame s p e) ≡ Some w
-IsSent s p e (Err LinkFault) w = (bytes : List ℕ) × (frame_bytes (next_frame s p e) ≡ Some bytes) × IsPrefixOf w bytes
+IsSent s p e (Ok x) w = (frame_bytes (next_frame s p e) ≡ Some w) × IsCanonical (added p e.gtid)
+IsSent s p e (Err LinkFault) w = (bytes : List ℕ) × (frame_bytes (next_frame s p e) ≡ Some bytes) × IsPrefixOf w bytes × IsCanonical (added p e.gtid)
 IsSent s p e (Err Memory) w = w ≡ []
 IsSent s p e (Err PositionTooLarge) w = w ≡ []
 
@@ -49,6 +54,7 @@ pub record AreSent (s : ShardName) (p : Position) (entries : List Entry) (result
   pub are : entries ≡ sent ++ rest
   pub bytes : List ℕ
   pub spelled : AreSpelled s p sent bytes
+  pub canonical : IsCanonicalAlong p sent
   pub prefix : IsPrefixOf w bytes
   pub whole : result ≢ Err LinkFault → w ≡ bytes
   pub all : OnOk result (rest ≡ [])

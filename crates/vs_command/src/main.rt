@@ -3,5 +3,6 @@
 
 mod frame;
 mod sending;
+mod status;
 
 fn main() {}
