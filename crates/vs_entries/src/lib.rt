@@ -6,10 +6,12 @@
 
 mod body;
 mod event;
+mod laws;
 mod log;
 mod query;
 mod reader;
 mod refusal;
 mod word;
 
+pub use laws::law_statements;
 pub use log::{LogFault, LogRead, read_log};
