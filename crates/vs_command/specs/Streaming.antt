@@ -1,7 +1,8 @@
 -- What a stream of one shard writes, and what is known where it is done.
-use Rattle.std.specs.Prelude.{◌≡◌, ◌≢◌, ℕ, List, [], ◌∷◌, ◌++◌, map, Option, Some, None}
+use Rattle.std.specs.Prelude.{◌≡◌, ◌≢◌, ◌⊎◌, ℕ, List, [], ◌∷◌, ◌++◌, map, Option, Some, None}
 use Rattle.std.specs.declared.cmp.Ordering.TheVariants.{Equal}
 use Rattle.vs_base.specs.declared.ShardName.{ShardName}
+use Rattle.vs_gtid.specs.declared.Entry.{Entry}
 use Rattle.vs_gtid.specs.Logs.{Log}
 use Rattle.vs_gtid.specs.Positions.{Position, IsSubset}
 use Rattle.vs_outside.specs.Clusters.{ClusterBytes}
@@ -18,6 +19,7 @@ use Rattle.vs_model.specs.Requests.{First, OneShard, From}
 use Rattle.vs_command.specs.declared.status.Status.{Status}
 use Rattle.vs_command.specs.declared.status.Status.TheVariants.{Done, LinkFault}
 use Rattle.vs_command.specs.Line.{Asks}
+use Rattle.vs_command.specs.Sending.{AreSpelled, IsCanonicalAlong}
 use Rattle.vs_command.specs.Spelling.{frames_bytes}
 
 -- what the bytes of a shard's log mean, under its keyspace
@@ -49,6 +51,20 @@ pub record Answers (cluster : ClusterBytes) (name : ShardName) (status : Status)
   pub prefix : IsPrefixOf written bytes
   pub whole : status ≢ LinkFault → written ≡ bytes
   pub finished : status ≡ Done → IsFinished (cluster_meant cluster) (last_vector v0 frames)
+
+-- What was written of a log, from the empty position: the frames of its first entries, and where the link failed a beginning of them.
+-- Where the stream is done, they are all entries, and the log has no fault.
+pub record IsStreamed (s : ShardName) (log : Log) (status : Status) (written : List ℕ) : Type 0 where
+  pub sent : List Entry
+  pub rest : List Entry
+  pub are : log.entries ≡ sent ++ rest
+  pub bytes : List ℕ
+  pub spelled : AreSpelled s [] sent bytes
+  pub canonical : IsCanonicalAlong [] sent
+  pub prefix : IsPrefixOf written bytes
+  pub whole : status ≢ LinkFault → written ≡ bytes
+  pub base : (sent ≡ []) ⊎ IsSubset log.base []
+  pub finished : status ≡ Done → (rest ≡ []) × IsSubset log.base [] × (log.fault ≡ None)
 
 -- The headline: what is written answers the line at the front of the input, or nothing is written and the stream isn't done.
 pub data Headline (cluster : ClusterBytes) (input : List ℕ) (status : Status) (written : List ℕ) : Type 0 where
