@@ -4,3 +4,4 @@ pub mod TimeLemmas
 pub mod MemoryLemmas
 pub mod OpeningLemmas
 pub mod ListingLemmas
+pub mod PlaceLemmas

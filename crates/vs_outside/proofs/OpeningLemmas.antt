@@ -1,11 +1,11 @@
 -- The counts of names, before and after a call of the openings.
-use Rattle.std.proofs.Common.{◌≡◌, ℕ, zero, suc, ◌+◌, ◌-◌, ◌^◌, ◌<◌, ◌≤◌, min, Bool, true, false, ◌&&◌, ◌==◌, cond, nat_lt, List, [], ◌∷◌, ◌++◌, length, get_or, map, position, find, Option, Some, None, refl, sym, ap, subst, ◌∙◌, ⊎_elim, arith}
+use Rattle.std.proofs.Common.{◌≡◌, ℕ, zero, suc, ◌+◌, ◌≤◌, Bool, true, false, ◌==◌, cond, List, [], ◌∷◌, ◌++◌, length, get_or, position, find, Option, Some, None, refl, sym, ap, ◌∙◌, ⊎_elim, arith}
 use Rattle.std.proofs.Math.ListN.{set}
 use Rattle.std.proofs.Math.Seq.{map-set_same, get_or-append_seam}
 use Rattle.std.specs.Option.{option_map_or, option_or}
-use Rattle.std.specs.List.{list_all, position_or_len}
+use Rattle.std.specs.List.{position_or_len}
 use Rattle.std.proofs.Math.ListN.{get_or-map}
-use Rattle.std.proofs.lemmas.Bool.{true≢false, lt-ltb, ne_eqb, cases_lt}
+use Rattle.std.proofs.lemmas.Bool.{true≢false, ne_eqb, cases_lt}
 use Rattle.std.proofs.lemmas.List.{length-map, length-append, set-get_or}
 use Rattle.std.proofs.lemmas.List.Folds.{find-set, find_past, find-append}
 use Rattle.std.proofs.lemmas.List.Quantifiers.{position-Some}
@@ -15,7 +15,8 @@ use Rattle.vs_base.specs.Names.{same_name}
 use Rattle.vs_base.proofs.NameLemmas.{same_name-refl, same_name-is}
 use Rattle.vs_outside.specs.Counts.{raised}
 use Rattle.vs_outside.specs.Names.{StandsIn}
-use Rattle.vs_outside.specs.Openings.{faults_of, waits_of, opened_names, have_no_faults}
+use Rattle.vs_outside.specs.Openings.{opened_names, have_no_faults}
+use Rattle.vs_outside.proofs.PlaceLemmas.{position-first, position-None, list_all-set}
 use Rattle.vs_outside.specs.declared.mem_opening.Opening.{Opening}
 
 abbrev pub is_of : ShardName → Opening → Bool
@@ -24,19 +25,6 @@ is_of name o = same_name o.name name
 -- a count of the first opening of the name
 abbrev pub count_of : (Opening → ℕ) → List Opening → ShardName → ℕ
 count_of f openings name = option_map_or f (find (is_of name) openings) 0
-
-first_place : {X : Type 0} (p : X → Bool) (xs : List X) (i : ℕ) → position p xs ≡ Some i → i ≡ position_or_len p xs
-first_place p xs i e = go (nat_lt (position_or_len p xs) (length xs)) e
-  where
-    go : (b : Bool) → cond b (Some (position_or_len p xs)) None ≡ Some i → i ≡ position_or_len p xs
-    go true h = cc
-    go false h = cc
-
-no_place : {X : Type 0} (p : X → Bool) (xs : List X) → position p xs ≡ None → position_or_len p xs < length xs → ⊥
-no_place p xs e inside =
-    let there : position p xs ≡ Some (position_or_len p xs) = ap (λ b. cond b (Some (position_or_len p xs)) None) (lt-ltb _ _ inside) in
-    let both : None ≡ Some (position_or_len p xs) = sym e ∙ there in
-    cc
 
 -- the opening at the name's first place is changed, and keeps its name
 module _ (openings : List Opening) (name : ShardName) (place : ℕ) (held changed : Opening)
@@ -48,7 +36,7 @@ module _ (openings : List Opening) (name : ShardName) (place : ℕ) (held change
   first f o same =
       let inside = (position-Some (is_of name) openings place held at).0 in
       let passes : same_name o.name name ≡ true = ap (λ n. same_name n name) (same ∙ is_name) ∙ same_name-refl name in
-      ap (λ r. option_map_or f r 0) (find-set (is_of name) openings place o (first_place (is_of name) openings place at) inside passes)
+      ap (λ r. option_map_or f r 0) (find-set (is_of name) openings place o (position-first (is_of name) openings place at) inside passes)
 
   pub count_of-add : (f : Opening → ℕ) (n : ℕ) → f changed ≡ raised n (f held) → count_of f (set openings place changed) name ≡ raised n (count_of f openings name)
   count_of-add f n more =
@@ -79,7 +67,7 @@ opened_has_place openings name (before, after, is) none =
     in
     let passes : same_name (get_or openings at d).name name ≡ true = ap (λ n. same_name n name) there ∙ same_name-refl name in
     let past : length openings ≤ position_or_len (is_of name) openings =
-    ⊎_elim (λ inside. absurd (no_place (is_of name) openings none inside)) (λ h. h) (cases_lt (position_or_len (is_of name) openings) (length openings))
+    ⊎_elim (λ inside. absurd (position-None (is_of name) openings none inside)) (λ h. h) (cases_lt (position_or_len (is_of name) openings) (length openings))
     in
     true≢false (sym passes ∙ fails_before_first (is_of name) openings at d (omega arith))
 
@@ -97,14 +85,9 @@ raised-none : (n : ℕ) → (raised 0 n == 0) ≡ (n == 0)
 raised-none zero = refl
 raised-none (suc n) = ne_eqb (raised 0 (suc n)) 0 (λ e. omega arith) ∙ sym (ne_eqb (suc n) 0 (λ e. omega arith))
 
-no_faults-set : (openings : List Opening) (place : ℕ) (changed d : Opening) → changed.faults ≡ raised 0 (get_or openings place d).faults →
-    have_no_faults (set openings place changed) ≡ have_no_faults openings
-no_faults-set [] place changed d is = refl
-no_faults-set (o ∷ os) zero changed d is = ap (λ b. b && have_no_faults os) (ap (λ n. n == 0) is ∙ raised-none o.faults)
-no_faults-set (o ∷ os) (suc place) changed d is = ap (λ b. (o.faults == 0) && b) (no_faults-set os place changed d is)
-
 -- where no fault is added, none come
 pub have_no_faults-add : (openings : List Opening) (place : ℕ) (held changed : Opening) → held ≡ get_or openings place held →
     (n : ℕ) → n ≡ 0 → changed.faults ≡ raised n held.faults → have_no_faults (set openings place changed) ≡ have_no_faults openings
 have_no_faults-add openings place held changed is n none added =
-    no_faults-set openings place changed held (added ∙ ap (λ k. raised k held.faults) none ∙ ap (λ o. raised 0 o.faults) is)
+    let same : (changed.faults == 0) ≡ (held.faults == 0) = ap (λ n. n == 0) (added ∙ ap (λ k. raised k held.faults) none) ∙ raised-none held.faults in
+    list_all-set (λ o. o.faults == 0) openings place changed held (same ∙ ap (λ o. o.faults == 0) is)

@@ -1,5 +1,5 @@
-use Rattle.std.proofs.Common.{◌≡◌, ℕ, List, take, IsTrue, All}
-use Rattle.vs_outside.specs.Clusters.{AreNamesOf, has_text, shard_names}
+use Rattle.std.proofs.Common.{take, IsTrue, All}
+use Rattle.vs_outside.specs.Clusters.{AreNamesOf}
 use Rattle.vs_outside.specs.Memory.{cluster_of}
 use Rattle.vs_outside.specs.Names.{is_shard_text}
 use Rattle.vs_outside.proofs.mem_shards.names_of.Given as goal

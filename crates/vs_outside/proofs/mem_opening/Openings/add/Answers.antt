@@ -1,4 +1,4 @@
-use Rattle.std.proofs.Common.{◌≡◌, Some, None, position, sym, ◌∙◌, refl}
+use Rattle.std.proofs.Common.{◌≡◌, Some, position, sym, ◌∙◌, refl}
 use Rattle.vs_outside.proofs.OpeningLemmas.{is_of, count_of-add, count_of-other, opened_names-set, opened_has_place, have_no_faults-add}
 use Rattle.vs_outside.proofs.mem_opening.Openings.add.Goals as goal
 
