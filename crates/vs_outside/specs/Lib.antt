@@ -5,3 +5,5 @@ pub mod Clusters
 pub mod Reads
 pub mod Times
 pub mod Scripts
+pub mod Memory
+pub mod Openings

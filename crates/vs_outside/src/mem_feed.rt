@@ -53,6 +53,20 @@ impl MemFeed {
         }
     }
 
+    /// How many reads failed.
+    pub fn faults(&self) -> u64
+        ensures { result ≡ ⟦<MemFeed as Feed>⟧.faults self.now }
+    {
+        self.faults
+    }
+
+    /// How many reads had nothing yet.
+    pub fn waits(&self) -> u64
+        ensures { result ≡ ⟦<MemFeed as Feed>⟧.waits self.now }
+    {
+        self.waits
+    }
+
     fn give(&mut self, most: usize, buf: &mut [u8]) -> Got
         requires { 1 ≤ most }
         ensures keeps { (self.new.origin ≡ self.old.origin) × (self.new.log ≡ self.old.log) × (self.new.script ≡ self.old.script) × (self.new.faults ≡ self.old.faults) × (self.new.waits ≡ self.old.waits) }
@@ -91,9 +105,7 @@ impl Feed for MemFeed {
 
     fn read(&mut self, buf: &mut [u8]) -> Result<Got, Failed> {
         let answer = self.script.get(self.next).copied();
-        if self.next < self.script.len() {
-            self.next += 1;
-        }
+        self.next = self.next.saturating_add(1);
         match answer {
             Some(FeedAnswer::Give(n)) => Ok(self.give(n.max(1), buf)),
             Some(FeedAnswer::Wait) => {

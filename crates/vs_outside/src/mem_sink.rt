@@ -54,9 +54,7 @@ impl Sink for MemSink {
 
     fn write(&mut self, bytes: &[u8]) -> Result<usize, Failed> {
         let answer = self.script.get(self.next).copied();
-        if self.next < self.script.len() {
-            self.next += 1;
-        }
+        self.next = self.next.saturating_add(1);
         let most = match answer {
             Some(SinkAnswer::Take(n)) => n.max(1),
             Some(SinkAnswer::Fail) => {

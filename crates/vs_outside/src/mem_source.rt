@@ -42,9 +42,7 @@ impl Source for MemSource {
 
     fn read(&mut self, buf: &mut [u8]) -> Result<usize, Failed> {
         let fails = self.fails.get(self.next).copied() == Some(true);
-        if self.next < self.fails.len() {
-            self.next += 1;
-        }
+        self.next = self.next.saturating_add(1);
         if fails {
             self.faults = self.faults.saturating_add(1);
             return Err(Failed);

@@ -14,6 +14,16 @@ pub enum AskEnd {
     Memory,
 }
 
+impl From<OutOfMemory> for AskEnd {
+    ghost use Rattle.vs_outside.specs.declared.tablets.AskEnd.TheVariants.{Memory};
+
+    ghost from_gives = { λ _ e. e ≡ Memory };
+
+    fn from(_refused: OutOfMemory) -> AskEnd {
+        AskEnd::Memory
+    }
+}
+
 /// A feed at the front of its log, and the schema text of its shard.
 #[derive(Drop)]
 pub struct Opened<F> {
