@@ -6,6 +6,7 @@ use Rattle.vs_wire.specs.declared.field.WireType.{WireType}
 use Rattle.vs_wire.specs.declared.field.WireType.TheVariants as types
 use Rattle.vs_wire.specs.Varint.{◌>>=◌, varint_in, varint}
 
+-- a value, by wire type
 pub data Value : Type 0 where
   number : ℕ → Value
   fixed64 : List ℕ → Value

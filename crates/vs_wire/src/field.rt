@@ -1,5 +1,15 @@
 ghost use Rattle.std.specs.Prelude.{◌≡◌, ◌≤◌, IfOk, length};
-ghost use Rattle.vs_wire.specs.Fields.{field_in, fixed32_in, fixed64_in, sized_in, tag_in, tag_parts, value_in, varint_value_in, wire_type_of};
+ghost use Rattle.vs_wire.specs.Fields.{
+  field_in,
+  fixed32_in,
+  fixed64_in,
+  sized_in,
+  tag_in,
+  tag_parts,
+  value_in,
+  varint_value_in,
+  wire_type_of,
+};
 ghost use Rattle.vs_wire.specs.Seen.{Gives, seen_value};
 
 use crate::Flaw;
@@ -13,7 +23,7 @@ pub struct Field<'a> {
     pub value: FieldValue<'a>,
 }
 
-/// The value of a field, by wire type. The fixed ones are little-endian as they stand.
+/// The value of a field, by wire type. Those of fixed size are the bytes as they stand.
 #[derive(Debug, Clone, Copy, PartialEq, Eq)]
 pub enum FieldValue<'a> {
     Varint(u64),
