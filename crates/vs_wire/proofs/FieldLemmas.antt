@@ -1,10 +1,10 @@
 -- A walk goes on field by field, and each field takes some bytes.
-use Rattle.std.proofs.Common.{◌≡◌, ℕ, zero, suc, ◌+◌, ◌-◌, ◌*◌, ◌/◌, ◌%◌, ◌^◌, ◌<◌, ◌≤◌, ◌==◌, Bool, true, false, nat_lt, if◌then◌else◌, inl, inr, List, [], ◌∷◌, length, length-drop, take, drop, Result, Ok, Err, refl, ap, sym, ◌∙◌, arith}
+use Rattle.std.proofs.Common.{◌≡◌, ℕ, zero, suc, ◌+◌, ◌-◌, ◌*◌, ◌%◌, ◌^◌, ◌<◌, ◌≤◌, ◌==◌, false, inl, inr, List, [], ◌∷◌, length, length-drop, take, drop, Result, Ok, Err, refl, ap, sym, ◌∙◌, arith}
 use Rattle.std.proofs.lemmas.List.{take_all}
 use Rattle.vs_wire.specs.declared.refusal.Flaw.{Flaw}
-use Rattle.vs_wire.specs.declared.refusal.Flaw.TheVariants as flaws
 use Rattle.vs_wire.specs.Varint.{◌>>=◌, number_in, varint_in}
-use Rattle.vs_wire.specs.Fields.{Value, Walk, nothing, with_first, ends_at, tag_in, value_in, field_in, walk, fields_from}
+use Rattle.vs_wire.specs.declared.field.WireType.{WireType}
+use Rattle.vs_wire.specs.Fields.{Value, Walk, nothing, with_first, ends_at, tag_parts, tag_in, value_in, field_in, walk, fields_from}
 use Rattle.vs_wire.proofs.VarintLemmas.{found, same_parts, below_or_not, number_in-last, number_in-more}
 
 -- ---- what an answer comes from
@@ -13,13 +13,12 @@ bind_ok : {A B E : Type 0} (r : Result A E) (f : A → Result B E) (y : B) → (
 bind_ok (Ok x) f y h = (x, refl, h)
 bind_ok (Err e) f y h = cc
 
-then_ok : {A E : Type 0} (t : Bool) (x y : A) (e : E) → (if t then Ok x else Err e) ≡ Ok y → x ≡ y
-then_ok true x y e h = cc
-then_ok false x y e h = cc
+abbrev taken_by : {A E : Type 0} → Result (ℕ × A × ℕ) E → ℕ
+taken_by (Ok x) = x.2
+taken_by (Err e) = 0
 
-else_ok : {A E : Type 0} (t : Bool) (x y : A) (e : E) → (if t then Err e else Ok x) ≡ Ok y → x ≡ y
-else_ok true x y e h = cc
-else_ok false x y e h = cc
+same_taken : {A E : Type 0} (x y : ℕ × A × ℕ) → ◌≡◌ {A = Result (ℕ × A × ℕ) E} (Ok x) (Ok y) → x.2 ≡ y.2
+same_taken x y e = ap taken_by e
 
 -- ---- a field takes some bytes
 
@@ -40,20 +39,21 @@ varint_takes bytes n taken e =
     let some = number_takes 10 bytes read.0.0 read.0.1 read.1 in
     omega (arith, (same_parts (read.0.0 % 2 ^ 64) read.0.1 n taken read.2).1)
 
-tag_takes : (bytes : List ℕ) (tag : ℕ × ℕ) → tag_in bytes ≡ Ok tag → 0 < tag.1
+tag_takes : (bytes : List ℕ) (tag : ℕ × WireType × ℕ) → tag_in bytes ≡ Ok tag → 0 < tag.2
 unfolding tag_in
 tag_takes bytes tag e =
-    let read = bind_ok (varint_in bytes) (λ t. if nat_lt t.0 (2 ^ 32) then Ok t else Err flaws.Long) tag e in
+    let read = bind_ok (varint_in bytes) (λ t. tag_parts t.0 >>= λ parts. Ok (parts.0, parts.1, t.1)) tag e in
+    let parts = bind_ok (tag_parts read.0.0) (λ p. Ok (p.0, p.1, read.0.1)) tag read.2 in
     let some = varint_takes bytes read.0.0 read.0.1 read.1 in
-    omega (arith, ap (λ t. t.1) (then_ok (nat_lt read.0.0 (2 ^ 32)) read.0 tag flaws.Long read.2))
+    omega (arith, same_taken (parts.0.0, parts.0.1, read.0.1) tag parts.2)
 
 pub field_takes : (bytes : List ℕ) (f : ℕ × Value × ℕ) → field_in bytes ≡ Ok f → 0 < f.2
 unfolding field_in
 field_takes bytes f e =
-    let tag = bind_ok (tag_in bytes) (λ t. value_in (t.0 % 8) (drop t.1 bytes) >>= λ v. if t.0 / 8 == 0 then Err flaws.ZeroField else Ok (t.0 / 8, v.0, t.1 + v.1)) f e in
-    let value = bind_ok (value_in (tag.0.0 % 8) (drop tag.0.1 bytes)) (λ v. if tag.0.0 / 8 == 0 then Err flaws.ZeroField else Ok (tag.0.0 / 8, v.0, tag.0.1 + v.1)) f tag.2 in
+    let tag = bind_ok (tag_in bytes) (λ t. value_in t.1 (drop t.2 bytes) >>= λ v. Ok (t.0, v.0, t.2 + v.1)) f e in
+    let value = bind_ok (value_in tag.0.1 (drop tag.0.2 bytes)) (λ v. Ok (tag.0.0, v.0, tag.0.2 + v.1)) f tag.2 in
     let some = tag_takes bytes tag.0 tag.1 in
-    omega (arith, ap (λ t. t.2) (else_ok (tag.0.0 / 8 == 0) (tag.0.0 / 8, value.0.0, tag.0.1 + value.0.1) f flaws.ZeroField value.2))
+    omega (arith, same_taken (tag.0.0, value.0.0, tag.0.2 + value.0.1) f value.2)
 
 -- ---- a walk, field by field
 

@@ -2,8 +2,11 @@
 use Rattle.std.specs.Prelude.{◌≡◌, ℕ, zero, suc, ◌+◌, ◌*◌, ◌/◌, ◌%◌, ◌^◌, ◌<◌, nat_lt, ◌==◌, if◌then◌else◌, List, [], ◌∷◌, ◌++◌, length, take, drop, Option, Some, None, Result, Ok, Err}
 use Rattle.vs_wire.specs.declared.refusal.Flaw.{Flaw}
 use Rattle.vs_wire.specs.declared.refusal.Flaw.TheVariants as flaws
+use Rattle.vs_wire.specs.declared.field.WireType.{WireType}
+use Rattle.vs_wire.specs.declared.field.WireType.TheVariants as types
 use Rattle.vs_wire.specs.Varint.{◌>>=◌, varint_in, varint}
 
+-- a value, by wire type
 pub data Value : Type 0 where
   number : ℕ → Value
   fixed64 : List ℕ → Value
@@ -35,24 +38,36 @@ fixed32_in bytes = bytes_in 4 bytes >>= λ b. Ok (fixed32 b, 4)
 abbrev pub sized_in : List ℕ → Result (Value × ℕ) Flaw
 sized_in bytes = varint_in bytes >>= λ n. bytes_in n.0 (drop n.1 bytes) >>= λ b. Ok (sized b, n.1 + n.0)
 
--- the value of this kind at the front, and how many bytes it takes
-unfoldable pub value_in : ℕ → List ℕ → Result (Value × ℕ) Flaw
-value_in kind bytes =
-    if kind == 0 then varint_value_in bytes
-    else (if kind == 1 then fixed64_in bytes
-    else (if kind == 2 then sized_in bytes
-    else (if kind == 5 then fixed32_in bytes
+-- the value of this type at the front, and how many bytes it takes
+unfoldable pub value_in : WireType → List ℕ → Result (Value × ℕ) Flaw
+value_in types.Varint bytes = varint_value_in bytes
+value_in types.Fixed64 bytes = fixed64_in bytes
+value_in types.Sized bytes = sized_in bytes
+value_in types.Fixed32 bytes = fixed32_in bytes
+
+abbrev pub wire_type_of : ℕ → Result WireType Flaw
+wire_type_of kind =
+    if kind == 0 then Ok types.Varint
+    else (if kind == 1 then Ok types.Fixed64
+    else (if kind == 2 then Ok types.Sized
+    else (if kind == 5 then Ok types.Fixed32
     else Err (flaws.BadKind kind))))
 
--- the tag at the front, which stays below 2 ^ 32, and how many bytes it takes
-unfoldable pub tag_in : List ℕ → Result (ℕ × ℕ) Flaw
-tag_in bytes = varint_in bytes >>= λ tag. if nat_lt tag.0 (2 ^ 32) then Ok tag else Err flaws.Long
+-- the field's number and the type of its value, of which a tag below 2 ^ 32 is made
+unfoldable pub tag_parts : ℕ → Result (ℕ × WireType) Flaw
+tag_parts tag =
+    if nat_lt tag (2 ^ 32) then (wire_type_of (tag % 8) >>= λ type. if tag / 8 == 0 then Err flaws.ZeroField else Ok (tag / 8, type))
+    else Err flaws.Long
 
--- a field at the front: its number, its value, and how many bytes it takes
+-- the parts of the tag at the front, and how many bytes it takes
+unfoldable pub tag_in : List ℕ → Result (ℕ × WireType × ℕ) Flaw
+tag_in bytes = varint_in bytes >>= λ tag. tag_parts tag.0 >>= λ parts. Ok (parts.0, parts.1, tag.1)
+
+-- a field at the front: its number, its value, and how many bytes it takes. What is wrong with the tag comes before what
+-- is wrong with the value.
 unfoldable pub field_in : List ℕ → Result (ℕ × Value × ℕ) Flaw
 field_in bytes =
-    tag_in bytes >>= λ tag. value_in (tag.0 % 8) (drop tag.1 bytes) >>= λ value.
-    if tag.0 / 8 == 0 then Err flaws.ZeroField else Ok (tag.0 / 8, value.0, tag.1 + value.1)
+    tag_in bytes >>= λ tag. value_in tag.1 (drop tag.2 bytes) >>= λ value. Ok (tag.0, value.0, tag.2 + value.1)
 
 -- the fields of some bytes, and the first thing that is none, with its place
 pub record Walk : Type 0 where

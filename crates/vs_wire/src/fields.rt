@@ -1,5 +1,13 @@
 ghost use Rattle.std.specs.Prelude.{◌≡◌, ◌<◌, ◌^◌, ◌++◌, ℕ, List, All, length};
-ghost use Rattle.vs_wire.specs.Fields.{Value, IsField, fields_from, fields_of, placed, spelled, then_from};
+ghost use Rattle.vs_wire.specs.Fields.{
+  IsField,
+  Value,
+  fields_from,
+  fields_of,
+  placed,
+  spelled,
+  then_from,
+};
 ghost use Rattle.vs_wire.specs.Seen.{Steps};
 
 use crate::field::read_field;
@@ -25,6 +33,7 @@ impl<'a> Model for Fields<'a> {
 }
 
 impl<'a> Fields<'a> {
+    /// Begins at the front of a message.
     pub fn new(bytes: &'a [u8]) -> Fields<'a>
         ensures { result ≡ fields_of bytes.now }
     {
@@ -56,5 +65,6 @@ impl<'a> Fields<'a> {
 /// Fields that are spelled are read again, each at its place, whatever follows.
 pub fn law_fields()
     ensures { (fs : List (ℕ × Value)) (after : List ℕ) → All IsField fs →
-        fields_of (spelled fs ++ after) ≡ then_from (placed 0 fs) (fields_from (length (spelled fs)) after) }
+        fields_of (spelled fs ++ after) ≡
+        then_from (placed 0 fs) (fields_from (length (spelled fs)) after) }
 {}

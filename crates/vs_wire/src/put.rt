@@ -5,7 +5,7 @@ use crate::OutOfMemory;
 use crate::varint::push_varint;
 use std::alloc::Global;
 
-/// Appends a field whose value is some bytes.
+/// Appends a field whose value is some bytes. The field's number is 1 to 536,870,911.
 pub fn put_bytes(
     _alloc: Global,
     out: &mut Vec<u8>,
@@ -38,7 +38,7 @@ fn push_bytes(out: &mut Vec<u8>, field: u32, bytes: &[u8]) -> Result<(), OutOfMe
     Ok(())
 }
 
-/// Appends a field whose value is a number.
+/// Appends a field whose value is a number. The field's number is 1 to 536,870,911.
 pub fn put_number(_alloc: Global, out: &mut Vec<u8>, field: u32, n: u64) -> Result<(), OutOfMemory>
     requires low { 1 ≤ field }
     requires high { field < 2 ^ 29 }

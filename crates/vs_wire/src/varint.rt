@@ -1,24 +1,24 @@
 ghost use Rattle.std.specs.Prelude.{
-  ◌≡◌,
-  ◌+◌,
-  ◌*◌,
-  ◌%◌,
   if◌then◌else◌,
   nat_lt,
+  All,
   Err,
-  ◌≤◌,
-  ◌<◌,
-  ◌^◌,
-  ◌++◌,
-  ℕ,
+  IfOk,
   List,
   Ok,
-  IfOk,
   OnErr,
   OnOk,
   length,
   take,
-  All,
+  ℕ,
+  ◌%◌,
+  ◌*◌,
+  ◌+◌,
+  ◌++◌,
+  ◌<◌,
+  ◌^◌,
+  ◌≡◌,
+  ◌≤◌,
 };
 ghost use Rattle.vs_wire.specs.Seen.{refused_at};
 ghost use Rattle.vs_wire.specs.declared.refusal.Flaw.{Flaw};
@@ -81,6 +81,7 @@ pub fn get_varint(bytes: &[u8]) -> Result<(u64, usize), WireRefusal>
     }
 }
 
+/// Reads the number at the front; a flaw has no place yet.
 pub(crate) fn read_varint(bytes: &[u8]) -> Result<(u64, usize), Flaw>
     ensures value { result ≡ varint_in bytes.now }
     ensures within { IfOk result (λ found. (0 < found.1) × (found.1 ≤ length bytes.now)) }
@@ -104,7 +105,8 @@ pub(crate) fn read_varint(bytes: &[u8]) -> Result<(u64, usize), Flaw>
 /// The number of nine groups and this last one, of which only the lowest bit counts.
 fn last_group(low: u64, byte: u8) -> Result<(u64, usize), Flaw>
     requires { low < 2 ^ 63 }
-    ensures { result ≡ (if nat_lt byte 128 then Ok (low + 2 ^ 63 * (byte % 2), 10) else Err Flaw.Long) }
+    ensures { result ≡
+        (if nat_lt byte 128 then Ok (low + 2 ^ 63 * (byte % 2), 10) else Err Flaw.Long) }
 {
     if byte >= 128 {
         return Err(Flaw::Long);
@@ -114,6 +116,8 @@ fn last_group(low: u64, byte: u8) -> Result<(u64, usize), Flaw>
 
 /// The spelling of a number is read again, whatever follows, and no other has fewer bytes.
 pub fn law_varint()
-    ensures read { (n : ℕ) (after : List ℕ) → n < 2 ^ 64 → varint_in (varint n ++ after) ≡ Ok (n, length (varint n)) }
-    ensures shortest { (n taken : ℕ) (bytes : List ℕ) → All (λ b. b < 256) bytes → varint_in bytes ≡ Ok (n, taken) → length (varint n) ≤ taken }
+    ensures read { (n : ℕ) (after : List ℕ) → n < 2 ^ 64 →
+        varint_in (varint n ++ after) ≡ Ok (n, length (varint n)) }
+    ensures shortest { (n taken : ℕ) (bytes : List ℕ) → All (λ b. b < 256) bytes →
+        varint_in bytes ≡ Ok (n, taken) → length (varint n) ≤ taken }
 {}
