@@ -3,3 +3,4 @@ pub mod EqualSets
 pub mod JoinLemmas
 pub mod MissingLemmas
 pub mod Order
+pub mod TextLemmas

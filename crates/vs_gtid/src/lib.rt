@@ -8,6 +8,7 @@ mod interval;
 mod journal;
 mod refusal;
 mod set;
+mod text;
 
 pub use entry::{Entry, Work};
 pub use interval::Interval;
