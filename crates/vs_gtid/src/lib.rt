@@ -6,6 +6,7 @@ mod compare;
 mod entry;
 mod interval;
 mod journal;
+mod merge;
 mod refusal;
 mod set;
 mod text;
