@@ -36,7 +36,7 @@ has-joined (i ∷ rest) k h g =
       ]
     ]
 
-or_turn : (a b : Bool) → (a || b) ≡ (b || a)
+pub or_turn : (a b : Bool) → (a || b) ≡ (b || a)
 or_turn true true = refl
 or_turn true false = refl
 or_turn false true = refl

@@ -6,8 +6,10 @@ mod compare;
 mod entry;
 mod interval;
 mod journal;
+mod merge;
 mod refusal;
 mod set;
+mod text;
 
 pub use entry::{Entry, Work};
 pub use interval::Interval;
