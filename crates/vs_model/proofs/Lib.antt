@@ -6,3 +6,4 @@ mod OneStep
 mod Runs
 mod Examples
 mod Resumed
+mod Comes
