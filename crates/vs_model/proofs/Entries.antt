@@ -8,7 +8,7 @@ use Rattle.vs_base.specs.declared.Gtid.{Gtid}
 use Rattle.vs_base.proofs.NameLemmas.{same_gtid-refl}
 use Rattle.vs_gtid.specs.declared.Entry.{Entry}
 use Rattle.vs_gtid.specs.declared.JournalValue.{JournalValue}
-use Rattle.vs_model.specs.Names.{Position, same_gtid, has}
+use Rattle.vs_model.specs.Names.{Position, SameSet, same_gtid, has}
 use Rattle.vs_model.specs.Logs.{Log, HaveDistinctGtids, IsPositionAfter, after, due, stop, is_gtid_of, own_journal, up_to_own, first_own}
 use Rattle.vs_model.proofs.Lists.{cons_is_not_nil, same_head, same_tail, not_either, filter-filter, filter_all, drop_none, none_in_filter}
 
@@ -96,3 +96,13 @@ pub due_twice : (s : ShardName) (log : Log) (p q : Position) (xs xs_rest ys ys_r
     due s log p ≡ xs ++ xs_rest → IsPositionAfter p xs q → due s log q ≡ ys ++ ys_rest → due s log p ≡ (xs ++ ys) ++ ys_rest
 due_twice s log p q xs xs_rest ys ys_rest distinct split to_q then =
     split ∙ ap (λ es. xs ++ es) (sym (due-sent s log p q xs xs_rest distinct split to_q) ∙ then) ∙ sym (append_assoc xs ys ys_rest)
+
+-- of equal sets the same entries are due, up to the same journal
+after-same : (log : Log) (p q : Position) → SameSet p q → after log p ≡ after log q
+after-same log p q same = filter_agree (λ e. not (has p e.gtid)) (λ e. not (has q e.gtid)) (λ e. ap not (same e.gtid)) log.entries
+
+pub due-same : (s : ShardName) (log : Log) (p q : Position) → SameSet p q → due s log p ≡ due s log q
+due-same s log p q same = ap (up_to_own s) (after-same log p q same)
+
+pub stop-same : (s : ShardName) (log : Log) (p q : Position) → SameSet p q → stop s log p ≡ stop s log q
+stop-same s log p q same = ap (first_own s) (after-same log p q same)

@@ -7,3 +7,5 @@ mod Runs
 mod Examples
 mod Resumed
 mod Comes
+mod Stays
+mod Final

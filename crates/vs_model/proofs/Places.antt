@@ -156,3 +156,18 @@ module _ (v : Vector) (j : JournalValue) (s : ShardName) where
       place_of-append (remaining j.participants v) (successors_of j) s
       ∙ ap (λ o. option_or o (place_of (successors_of j) s)) (place_of-left j.participants v s h)
       ∙ stands_no_successor v j.successors s new there
+
+  -- a successor stands at its position, where none of them stood before
+  pub successor_in : (place : Place) → AllByRecursion (λ n. IsFalse (stands v n.name)) j.successors → place_of (successors_of j) s ≡ Some place →
+      place_of (switched v j) s ≡ Some place
+  successor_in place new is =
+      let absent = false_from_ne_true (stands v s) (λ there. some_is_not_none place (sym is ∙ stands_no_successor v j.successors s new there)) in
+      let gone : place_of (remaining j.participants v) s ≡ None = ⊎_elim
+      (λ out. place_of-left j.participants v s out)
+      (λ stays. place_of-remaining j.participants v s stays ∙ no_place (place_of v s) absent)
+      (cases_Bool (is_in s j.participants)) in
+      place_of-append (remaining j.participants v) (successors_of j) s ∙ ap (λ o. option_or o (place_of (successors_of j) s)) gone ∙ is
+    where
+      no_place : (o : Option Place) → is_some o ≡ false → o ≡ None
+      no_place None e = refl
+      no_place (Some x) e = absurd (true≢false e)

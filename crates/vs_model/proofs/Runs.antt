@@ -86,16 +86,16 @@ module _ (cluster : Cluster) (rules : Filter) (distinct : LogsAreDistinct cluste
       (steps.0.sends s p r from between_them.1)
       (Sends-along fs (vector_after v f) r q steps.1 all.1 between_them.1 to)
 
-module _ (cluster : Cluster) (rules : Filter) where
-  last_vector-append : (fs gs : List Frame) (v : Vector) → last_vector v (fs ++ gs) ≡ last_vector (last_vector v fs) gs
-  last_vector-append [] gs v = refl
-  last_vector-append (f ∷ fs) gs v = last_vector-append fs gs (vector_after v f)
+pub last_vector-append : (fs gs : List Frame) (v : Vector) → last_vector v (fs ++ gs) ≡ last_vector (last_vector v fs) gs
+last_vector-append [] gs v = refl
+last_vector-append (f ∷ fs) gs v = last_vector-append fs gs (vector_after v f)
 
-  steps_behind : (fs gs : List Frame) (v : Vector) → Steps cluster rules v (fs ++ gs) → Steps cluster rules (last_vector v fs) gs
+module _ (cluster : Cluster) (rules : Filter) where
+  pub steps_behind : (fs gs : List Frame) (v : Vector) → Steps cluster rules v (fs ++ gs) → Steps cluster rules (last_vector v fs) gs
   steps_behind [] gs v steps = steps
   steps_behind (f ∷ fs) gs v steps = steps_behind fs gs (vector_after v f) steps.1
 
-  steps_before : (fs gs : List Frame) (v : Vector) → Steps cluster rules v (fs ++ gs) → Steps cluster rules v fs
+  pub steps_before : (fs gs : List Frame) (v : Vector) → Steps cluster rules v (fs ++ gs) → Steps cluster rules v fs
   steps_before [] gs v steps = tt
   steps_before (f ∷ fs) gs v steps = (steps.0, steps_before fs gs (vector_after v f) steps.1)
 
