@@ -1,13 +1,14 @@
 -- What is due after the first entries that were due were sent.
-use Rattle.std.proofs.Common.{◌≡◌, Bool, true, false, not, cond, ◌||◌, ◌&&◌, List, [], ◌∷◌, ◌++◌, Option, Some, None, is_some, refl, ap, sym, ◌∙◌, subst, filter}
+use Rattle.std.proofs.Common.{◌≡◌, Bool, true, false, not, cond, ◌||◌, ◌&&◌, List, [], ◌∷◌, ◌++◌, append_assoc, Option, Some, None, is_some, refl, ap, sym, ◌∙◌, subst, filter}
 use Rattle.std.specs.List.{list_any}
 use Rattle.std.specs.Option.{option_or}
 use Rattle.std.proofs.lemmas.List.Elements.{filter_agree}
 use Rattle.vs_base.specs.declared.ShardName.{ShardName}
+use Rattle.vs_base.specs.declared.Gtid.{Gtid}
 use Rattle.vs_base.proofs.NameLemmas.{same_gtid-refl}
 use Rattle.vs_gtid.specs.declared.Entry.{Entry}
 use Rattle.vs_gtid.specs.declared.JournalValue.{JournalValue}
-use Rattle.vs_model.specs.Names.{Position, same_gtid, has}
+use Rattle.vs_model.specs.Names.{Position, SameSet, same_gtid, has}
 use Rattle.vs_model.specs.Logs.{Log, HaveDistinctGtids, IsPositionAfter, after, due, stop, is_gtid_of, own_journal, up_to_own, first_own}
 use Rattle.vs_model.proofs.Lists.{cons_is_not_nil, same_head, same_tail, not_either, filter-filter, filter_all, drop_none, none_in_filter}
 
@@ -75,3 +76,33 @@ module _ (s : ShardName) (log : Log) (p q : Position) (sent rest : List Entry) (
 
   pub stop-sent : stop s log q ≡ stop s log p
   stop-sent = ap (first_own s) (after-sent log p q sent grown) ∙ goes_on.1
+
+or_assoc : (a b c : Bool) → ((a || b) || c) ≡ (a || (b || c))
+or_assoc true b c = refl
+or_assoc false b c = refl
+
+is_gtid_of-append : (xs ys : List Entry) (g : Gtid) → is_gtid_of (xs ++ ys) g ≡ (is_gtid_of xs g || is_gtid_of ys g)
+is_gtid_of-append [] ys g = refl
+is_gtid_of-append (x ∷ xs) ys g =
+    ap (λ b. same_gtid x.gtid g || b) (is_gtid_of-append xs ys g) ∙ sym (or_assoc (same_gtid x.gtid g) (is_gtid_of xs g) (is_gtid_of ys g))
+
+-- q has p and these, r has q and those
+pub grown_twice : (p q r : Position) (xs ys : List Entry) → IsPositionAfter p xs q → IsPositionAfter q ys r → IsPositionAfter p (xs ++ ys) r
+grown_twice p q r xs ys to_q to_r g =
+    to_r g ∙ ap (λ b. b || is_gtid_of ys g) (to_q g) ∙ or_assoc (has p g) (is_gtid_of xs g) (is_gtid_of ys g)
+    ∙ ap (λ b. has p g || b) (sym (is_gtid_of-append xs ys g))
+
+pub due_twice : (s : ShardName) (log : Log) (p q : Position) (xs xs_rest ys ys_rest : List Entry) → HaveDistinctGtids log.entries →
+    due s log p ≡ xs ++ xs_rest → IsPositionAfter p xs q → due s log q ≡ ys ++ ys_rest → due s log p ≡ (xs ++ ys) ++ ys_rest
+due_twice s log p q xs xs_rest ys ys_rest distinct split to_q then =
+    split ∙ ap (λ es. xs ++ es) (sym (due-sent s log p q xs xs_rest distinct split to_q) ∙ then) ∙ sym (append_assoc xs ys ys_rest)
+
+-- of equal sets the same entries are due, up to the same journal
+after-same : (log : Log) (p q : Position) → SameSet p q → after log p ≡ after log q
+after-same log p q same = filter_agree (λ e. not (has p e.gtid)) (λ e. not (has q e.gtid)) (λ e. ap not (same e.gtid)) log.entries
+
+pub due-same : (s : ShardName) (log : Log) (p q : Position) → SameSet p q → due s log p ≡ due s log q
+due-same s log p q same = ap (up_to_own s) (after-same log p q same)
+
+pub stop-same : (s : ShardName) (log : Log) (p q : Position) → SameSet p q → stop s log p ≡ stop s log q
+stop-same s log p q same = ap (first_own s) (after-same log p q same)

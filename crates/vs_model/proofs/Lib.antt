@@ -6,3 +6,6 @@ mod OneStep
 mod Runs
 mod Examples
 mod Resumed
+mod Comes
+mod Stays
+mod Final

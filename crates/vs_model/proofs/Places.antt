@@ -1,8 +1,8 @@
 -- The places of shards in a vector that has moved, or switched.
-use Rattle.std.proofs.Common.{◌≡◌, true, false, not, cond, List, [], ◌∷◌, ◌++◌, map, Option, Some, None, IsFalse, is_some, filter, refl, ap, sym, ◌∙◌, subst, ⊎_elim, true≢false}
-use Rattle.std.specs.List.{AllByRecursion}
+use Rattle.std.proofs.Common.{◌≡◌, true, false, not, cond, ◌||◌, List, [], ◌∷◌, ◌++◌, map, Option, Some, None, IsFalse, is_some, filter, refl, ap, sym, ◌∙◌, subst, ◌⊎◌, inl, inr, ⊎_elim, true≢false}
+use Rattle.std.specs.List.{list_any, AllByRecursion}
 use Rattle.std.specs.Option.{option_or}
-use Rattle.std.proofs.lemmas.Bool.{cases_Bool, cond-true, cond-false, false_from_ne_true}
+use Rattle.std.proofs.lemmas.Bool.{cases_Bool, cond-true, cond-false, false_from_ne_true, or_left}
 use Rattle.vs_base.specs.declared.ShardName.{ShardName}
 use Rattle.vs_base.proofs.NameLemmas.{same_name-is}
 use Rattle.vs_gtid.specs.declared.JournalValue.{JournalValue}
@@ -10,7 +10,7 @@ use Rattle.vs_gtid.specs.declared.Successor.{Successor}
 use Rattle.vs_model.specs.Names.{Position, same_name, is_in}
 use Rattle.vs_model.specs.Vectors.{Place, Vector, place_of, stands, names, is_copy, Streams, Copies, moved, successors_of, switched}
 use Rattle.vs_model.specs.Vectors.Place.{Fresh, Copying, Streaming}
-use Rattle.vs_model.proofs.Lists.{same_some}
+use Rattle.vs_model.proofs.Lists.{same_some, some_is_not_none}
 
 position_or : Position → Place → Position
 position_or d Fresh = d
@@ -60,6 +60,16 @@ names-moved [] s place = refl
 names-moved (slot ∷ v) s place =
     moved_either (λ w. names w ≡ slot.0 ∷ names v) v s place slot (λ e. refl) (λ e. ap (λ l. slot.0 ∷ l) (names-moved v s place))
 
+stands-names : (v : Vector) (s : ShardName) → stands v s ≡ list_any (λ n. same_name n s) (names v)
+stands-names [] s = refl
+stands-names (slot ∷ v) s =
+    ⊎_elim (λ e. ap is_some (at_name v s slot e) ∙ sym (or_left (same_name slot.0 s) (list_any (λ n. same_name n s) (names v)) e))
+    (λ e. ap is_some (past_name v s slot e) ∙ stands-names v s ∙ sym (ap (λ b. b || list_any (λ n. same_name n s) (names v)) e))
+    (cases_Bool (same_name slot.0 s))
+
+pub same_names_stand : (v w : Vector) (s : ShardName) → names v ≡ names w → stands v s ≡ stands w s
+same_names_stand v w s same = stands-names v s ∙ ap (list_any (λ n. same_name n s)) same ∙ sym (stands-names w s)
+
 pub place_of-append : (v w : Vector) (s : ShardName) → place_of (v ++ w) s ≡ option_or (place_of v s) (place_of w s)
 place_of-append [] w s = refl
 place_of-append (slot ∷ v) w s =
@@ -106,7 +116,29 @@ stands_no_successor v (n ∷ ns) s new h =
     (false_from_ne_true (same_name n.name s) (λ e. true≢false (sym h ∙ ap (stands v) (sym (same_name-is n.name s e)) ∙ new.0)))
     ∙ stands_no_successor v ns s new.1 h
 
+-- each successor streams
+pub successor_streams : (ns : List Successor) (s : ShardName) (place : Place) → place_of (map (λ n. (n.name, Streaming n.position)) ns) s ≡ Some place →
+    (p : Position) × (place ≡ Streaming p)
+successor_streams [] s place is = absurd (some_is_not_none place (sym is))
+successor_streams (n ∷ ns) s place is =
+    ⊎_elim (λ e. (n.position, same_some place (Streaming n.position) (sym is ∙ at_name _ s (n.name, Streaming n.position) e)))
+    (λ e. successor_streams ns s place (sym (past_name _ s (n.name, Streaming n.position) e) ∙ is))
+    (cases_Bool (same_name n.name s))
+
 module _ (v : Vector) (j : JournalValue) (s : ShardName) where
+  -- who stands after the switch stood before it, or is a successor
+  pub switched_from : (place : Place) → place_of (switched v j) s ≡ Some place → (place_of v s ≡ Some place) ⊎ (place_of (successors_of j) s ≡ Some place)
+  switched_from place is =
+      let apart = sym (place_of-append (remaining j.participants v) (successors_of j) s) ∙ is in
+      ⊎_elim (λ out. inr (sym (ap (λ o. option_or o (place_of (successors_of j) s)) (place_of-left j.participants v s out)) ∙ apart))
+      (λ stays. either (place_of v s) (place_of (successors_of j) s) place
+      (sym (ap (λ o. option_or o (place_of (successors_of j) s)) (place_of-remaining j.participants v s stays)) ∙ apart))
+      (cases_Bool (is_in s j.participants))
+    where
+      either : (o p : Option Place) (x : Place) → option_or o p ≡ Some x → (o ≡ Some x) ⊎ (p ≡ Some x)
+      either None p x e = inr e
+      either (Some y) p x e = inl e
+
   pub place_of-switched : is_in s j.participants ≡ false → stands v s ≡ true → place_of (switched v j) s ≡ place_of v s
   place_of-switched h there =
       place_of-append (remaining j.participants v) (successors_of j) s
@@ -124,3 +156,18 @@ module _ (v : Vector) (j : JournalValue) (s : ShardName) where
       place_of-append (remaining j.participants v) (successors_of j) s
       ∙ ap (λ o. option_or o (place_of (successors_of j) s)) (place_of-left j.participants v s h)
       ∙ stands_no_successor v j.successors s new there
+
+  -- a successor stands at its position, where none of them stood before
+  pub successor_in : (place : Place) → AllByRecursion (λ n. IsFalse (stands v n.name)) j.successors → place_of (successors_of j) s ≡ Some place →
+      place_of (switched v j) s ≡ Some place
+  successor_in place new is =
+      let absent = false_from_ne_true (stands v s) (λ there. some_is_not_none place (sym is ∙ stands_no_successor v j.successors s new there)) in
+      let gone : place_of (remaining j.participants v) s ≡ None = ⊎_elim
+      (λ out. place_of-left j.participants v s out)
+      (λ stays. place_of-remaining j.participants v s stays ∙ no_place (place_of v s) absent)
+      (cases_Bool (is_in s j.participants)) in
+      place_of-append (remaining j.participants v) (successors_of j) s ∙ ap (λ o. option_or o (place_of (successors_of j) s)) gone ∙ is
+    where
+      no_place : (o : Option Place) → is_some o ≡ false → o ≡ None
+      no_place None e = refl
+      no_place (Some x) e = absurd (true≢false e)

@@ -5,7 +5,7 @@ use Rattle.std.proofs.lemmas.List.Elements.{filter-append}
 use Rattle.vs_base.specs.declared.ShardName.{ShardName}
 use Rattle.vs_base.specs.declared.Gtid.{Gtid}
 use Rattle.vs_gtid.specs.declared.Entry.{Entry}
-use Rattle.vs_model.specs.Names.{Position, IsSubset, same_gtid, has}
+use Rattle.vs_model.specs.Names.{Position, IsSubset, has}
 use Rattle.vs_model.specs.Logs.{Cluster, Log, HaveDistinctGtids, LogsAreDistinct, log_of, due, between, IsPositionAfter, is_gtid_of}
 use Rattle.vs_model.specs.Vectors.{Vector, Streams}
 use Rattle.vs_model.specs.Frames.{Frame, shard_of, is_of, frames_of, vector_after, last_vector, vectors_along}
@@ -14,21 +14,12 @@ use Rattle.vs_model.specs.Legal.{Sends, IsTxOf, Legal, AllCopiedFollows}
 use Rattle.vs_model.specs.Steps.{Step, Steps}
 use Rattle.vs_model.proofs.Lists.{cons_is_not_nil}
 use Rattle.vs_model.proofs.Places.{same_position}
-use Rattle.vs_model.proofs.Entries.{due-sent}
+use Rattle.vs_model.proofs.Entries.{due_twice, grown_twice}
 use Rattle.vs_model.proofs.Sent.{between-sent, sends_from, sends_nothing}
-
-or_assoc : (a b c : Bool) → ((a || b) || c) ≡ (a || (b || c))
-or_assoc true b c = refl
-or_assoc false b c = refl
 
 or_nothing : (b : Bool) → (b || false) ≡ true → b ≡ true
 or_nothing true h = refl
 or_nothing false h = h
-
-is_gtid_of-append : (xs ys : List Entry) (g : Gtid) → is_gtid_of (xs ++ ys) g ≡ (is_gtid_of xs g || is_gtid_of ys g)
-is_gtid_of-append [] ys g = refl
-is_gtid_of-append (x ∷ xs) ys g =
-    ap (λ b. same_gtid x.gtid g || b) (is_gtid_of-append xs ys g) ∙ sym (or_assoc (same_gtid x.gtid g) (is_gtid_of xs g) (is_gtid_of ys g))
 
 module _ {A B : Type 0} (R : A → B → Type 0) where
   AllZip-append : (xs : List A) (ys : List B) (us : List A) (vs : List B) → AllZip R xs ys → AllZip R us vs → AllZip R (xs ++ us) (ys ++ vs)
@@ -51,14 +42,10 @@ module _ (bound : Bound) (s : ShardName) (log : Log) (p q r : Position) (fs gs :
   two = between s log q r
 
   split : due s log p ≡ (one ++ two) ++ to_r.first.0
-  split =
-      to_q.first.1 ∙ ap (λ es. one ++ es) (sym (due-sent s log p q one to_q.first.0 distinct to_q.first.1 to_q.position) ∙ to_r.first.1)
-      ∙ sym (append_assoc one two to_r.first.0)
+  split = due_twice s log p q one to_q.first.0 two to_r.first.0 distinct to_q.first.1 to_q.position to_r.first.1
 
   grown : IsPositionAfter p (one ++ two) r
-  grown g =
-      to_r.position g ∙ ap (λ b. b || is_gtid_of two g) (to_q.position g) ∙ or_assoc (has p g) (is_gtid_of one g) (is_gtid_of two g)
-      ∙ ap (λ b. has p g || b) (sym (is_gtid_of-append one two g))
+  grown = grown_twice p q r one two to_q.position to_r.position
 
   both : frames_of s (fs ++ gs) ≡ frames_of s fs ++ frames_of s gs
   both = filter-append (λ f. is_of s (shard_of f)) fs gs
@@ -99,16 +86,16 @@ module _ (cluster : Cluster) (rules : Filter) (distinct : LogsAreDistinct cluste
       (steps.0.sends s p r from between_them.1)
       (Sends-along fs (vector_after v f) r q steps.1 all.1 between_them.1 to)
 
-module _ (cluster : Cluster) (rules : Filter) where
-  last_vector-append : (fs gs : List Frame) (v : Vector) → last_vector v (fs ++ gs) ≡ last_vector (last_vector v fs) gs
-  last_vector-append [] gs v = refl
-  last_vector-append (f ∷ fs) gs v = last_vector-append fs gs (vector_after v f)
+pub last_vector-append : (fs gs : List Frame) (v : Vector) → last_vector v (fs ++ gs) ≡ last_vector (last_vector v fs) gs
+last_vector-append [] gs v = refl
+last_vector-append (f ∷ fs) gs v = last_vector-append fs gs (vector_after v f)
 
-  steps_behind : (fs gs : List Frame) (v : Vector) → Steps cluster rules v (fs ++ gs) → Steps cluster rules (last_vector v fs) gs
+module _ (cluster : Cluster) (rules : Filter) where
+  pub steps_behind : (fs gs : List Frame) (v : Vector) → Steps cluster rules v (fs ++ gs) → Steps cluster rules (last_vector v fs) gs
   steps_behind [] gs v steps = steps
   steps_behind (f ∷ fs) gs v steps = steps_behind fs gs (vector_after v f) steps.1
 
-  steps_before : (fs gs : List Frame) (v : Vector) → Steps cluster rules v (fs ++ gs) → Steps cluster rules v fs
+  pub steps_before : (fs gs : List Frame) (v : Vector) → Steps cluster rules v (fs ++ gs) → Steps cluster rules v fs
   steps_before [] gs v steps = tt
   steps_before (f ∷ fs) gs v steps = (steps.0, steps_before fs gs (vector_after v f) steps.1)
 

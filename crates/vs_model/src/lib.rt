@@ -15,6 +15,7 @@ ghost use Rattle.vs_model.specs.Frames.{Frame, last_vector};
 ghost use Rattle.vs_model.specs.Legal.{AllCopiedFollows, HasGathered, Legal, NoneCopies};
 ghost use Rattle.vs_model.specs.Logs.{Cluster, HaveDistinctGtids, IsPositionAfter, Log, LogsAreDistinct, due, stop};
 ghost use Rattle.vs_model.specs.Names.{Position};
+ghost use Rattle.vs_model.specs.Reached.{HasAllDue, IsFinal, IsSettled, StartsAreUnique, StartsToStream};
 ghost use Rattle.vs_model.specs.Steps.{SendsCopy, SendsTx, Step, Steps};
 ghost use Rattle.vs_model.specs.Vectors.{IsCanonicalVector, Vector, switched};
 
@@ -30,6 +31,16 @@ pub fn law_steps()
 pub fn law_resume()
     ensures { (cluster : Cluster) (rules : Filter) (v0 : Vector) (fs gs : List Frame) → LogsAreDistinct cluster →
         Legal cluster rules v0 fs → Legal cluster rules (last_vector v0 fs) gs → Legal cluster rules v0 (fs ++ gs) }
+{}
+
+/// A finished stream ends at the final positions of its cluster, whatever the order of events was,
+/// and has sent all that was due.
+pub fn law_final()
+    ensures ends { (cluster : Cluster) (rules : Filter) (v0 : Vector) (fs : List Frame) → LogsAreDistinct cluster → StartsAreUnique cluster v0 →
+        Legal cluster rules v0 fs → IsSettled cluster (last_vector v0 fs) → IsFinal cluster v0 (last_vector v0 fs) }
+    ensures sent { (cluster : Cluster) (rules : Filter) (v0 : Vector) (fs : List Frame) → LogsAreDistinct cluster → StartsAreUnique cluster v0 →
+        Legal cluster rules v0 fs → IsSettled cluster (last_vector v0 fs) →
+        (s : ShardName) (p : Position) → StartsToStream cluster v0 s p → HasAllDue cluster rules fs s p }
 {}
 
 /// Each kind of frame, sent by the rules that a program keeps, is a lawful step.
