@@ -6,3 +6,6 @@ pub mod Follows
 pub mod Distinct
 pub mod Takes
 pub mod Complete
+pub mod Beginnings
+pub mod Only
+pub mod Growth

@@ -1,20 +1,15 @@
 -- The laws that tie the table to the productions.
 use Rattle.std.specs.List.{AllByRecursion}
-use Rattle.std.specs.Prelude.{false, ◌≡◌, ◌≤◌, length, take, ◌⊎◌, List, [], ◌∷◌, ◌++◌, Some, None, Result, Ok, Err, ℕ}
+use Rattle.std.specs.Prelude.{false, ◌≡◌, ◌≤◌, length, take, ◌⊎◌, List, [], ◌∷◌, ◌++◌, Some, None, Ok, Err, ℕ}
 use Rattle.vs_base.specs.declared.Why.{Why}
 use Rattle.vs_gtid.specs.declared.Entry.{Entry}
 use Rattle.vs_gtid.specs.Logs.{Log, HaveDistinctGtids}
 use Rattle.vs_gtid.specs.Positions.{Position, has}
 use Rattle.vs_log.specs.declared.state.State.{State}
 use Rattle.vs_log.specs.Events.{Event}
-use Rattle.vs_log.specs.Table.{Rules, step, ◌>>=◌}
+use Rattle.vs_log.specs.Table.{Rules, step}
 use Rattle.vs_log.specs.Meaning.{log_meant}
 use Rattle.vs_log.specs.Productions.{Begins, IsWholeLog, Means}
-
--- the state to which events lead
-abbrev pub walk : Rules → State → List Event → Result State Why
-walk rules s [] = Ok s
-walk rules s (e ∷ es) = step rules s e >>= λ next. walk rules next es
 
 -- The table takes an event where, and only where, the beginning of a log goes on with it.
 pub record TakesBeginnings (rules : Rules) : Type 0 where

@@ -1,7 +1,18 @@
 ghost use Rattle.std.specs.Prelude.{List as Items, ℕ};
-ghost use Rattle.vs_log.specs.Laws.{HasNewGtids};
+ghost use Rattle.vs_log.specs.Laws.{HasNewGtids, MeansByProductions, TakesBeginnings};
 ghost use Rattle.vs_log.specs.Meaning.{log_meant};
 ghost use Rattle.vs_log.specs.Table.{Rules};
+
+/// The table takes an event where, and only where, the beginning of a log goes on with it.
+#[tactic(auto, using(crate::proofs::Beginnings::takes_beginnings))]
+pub fn law_beginnings()
+    ensures { (rules : Rules) → TakesBeginnings rules }
+{}
+
+/// Each list of bytes means one log by the productions: the one that the table gives.
+pub fn law_meaning()
+    ensures { (rules : Rules) (bytes : Items ℕ) → MeansByProductions rules bytes }
+{}
 
 /// No GTID of a log stands twice, or lies in its base.
 #[tactic(auto, using(crate::proofs::Distinct::new_gtids))]
