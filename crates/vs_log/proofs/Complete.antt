@@ -22,7 +22,7 @@ use Rattle.vs_log.specs.Table.{Rules, one_more, more_work, step}
 use Rattle.vs_log.specs.Meaning.{front}
 use Rattle.vs_log.specs.Productions.{is_counted, total, in_turn, is_nil, is_first, IsBase, IsMiddle, IsWork, IsGtid, IsUnended, IsSingle, IsTransaction, IsEntry, IsNew, AreEntries, IsLog, IsBegun, Stands, Begins}
 use Rattle.vs_log.proofs.Moves.Moves.{formatted, based, names, singles, begins, saves, maps_on, tells, ends}
-use Rattle.vs_log.proofs.Shapes.{total-append, left_nil, no_entry}
+use Rattle.vs_log.proofs.Shapes.{total-append, left_nil, no_entry, front_all}
 use Rattle.vs_log.proofs.Takes.{walk, walk_one, walk-append, takes_counted, filter_walk}
 
 abbrev standing : Position → List Entry → Position → Place → State
@@ -198,10 +198,6 @@ kept_all P (e ∷ es) a = go (is_counted e) (kept_all P es a.1) where
   go : (b : Bool) → AllByRecursion P (filter is_counted es) → AllByRecursion P (if b then e ∷ filter is_counted es else filter is_counted es)
   go true rest = (a.0, rest)
   go false rest = rest
-
-front_all : {A : Type 0} (P : A → Type 0) (xs ys : List A) → AllByRecursion P (xs ++ ys) → AllByRecursion P xs
-front_all P [] ys a = tt
-front_all P (x ∷ xs) ys a = (a.0, front_all P xs ys a.1)
 
 -- whether any event counted, by the parts
 empty_parts : (rules : Rules) (base known : Position) (entries : List Entry) (previous : List Event) (groups : List (List Event)) (opened : List Event) → AreEntries rules base groups entries known →

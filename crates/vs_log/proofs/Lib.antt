@@ -9,3 +9,4 @@ pub mod Complete
 pub mod Beginnings
 pub mod Only
 pub mod Growth
+pub mod Longest

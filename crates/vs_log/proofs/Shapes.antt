@@ -20,6 +20,10 @@ pub all_more : {A : Type 0} (P : A → Type 0) (xs : List A) (x : A) → AllByRe
 all_more P [] x a p = (p, tt)
 all_more P (y ∷ ys) x a p = (a.0, all_more P ys x a.1 p)
 
+pub front_all : {A : Type 0} (P : A → Type 0) (xs ys : List A) → AllByRecursion P (xs ++ ys) → AllByRecursion P xs
+front_all P [] ys a = tt
+front_all P (x ∷ xs) ys a = (a.0, front_all P xs ys a.1)
+
 pub total-append : (xs ys : List Event) → total (xs ++ ys) ≡ total xs + total ys
 total-append [] ys = omega arith
 total-append (x ∷ xs) ys = omega (arith, total-append xs ys)
