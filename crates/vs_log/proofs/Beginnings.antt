@@ -1,5 +1,5 @@
 -- The table takes an event where, and only where, the beginning of a log goes on with it.
-use Rattle.std.proofs.Common.{◌≡◌, List, [], ◌∷◌, ◌++◌, Result, Ok, Err, refl, ap, sym, ◌∙◌}
+use Rattle.std.proofs.Common.{◌≡◌, List, ◌∷◌, ◌++◌, Result, Ok, Err, ap, sym, ◌∙◌}
 use Rattle.vs_base.specs.declared.Why.{Why}
 use Rattle.vs_log.specs.declared.state.State.{State}
 use Rattle.vs_log.specs.Events.{Event}

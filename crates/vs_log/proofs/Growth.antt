@@ -1,31 +1,28 @@
 -- What more bytes do.
-use Rattle.std.proofs.Common.{◌≡◌, ◌≤◌, ◌<◌, ◌+◌, ◌&&◌, ℕ, zero, suc, Bool, true, false, List, [], ◌∷◌, ◌++◌, length, take, drop, nat_eq, nat_lt, nat_le, get_or, if◌then◌else◌, Option, Some, None, Result, Ok, Err, refl, ap, sym, subst, ◌∙◌, append_assoc, arith, length-append}
-use Rattle.std.specs.Prelude.{◌⊎◌, slice_index}
-use Rattle.std.specs.List.{AllByRecursion, filter}
+use Rattle.std.proofs.Common.{◌≡◌, ◌+◌, ℕ, zero, suc, Bool, true, false, List, [], ◌∷◌, ◌++◌, length, take, drop, nat_eq, if◌then◌else◌, Some, None, Result, Ok, Err, refl, ap, sym, ◌∙◌, append_assoc}
+use Rattle.std.specs.Prelude.{◌⊎◌}
+use Rattle.std.specs.List.{filter}
 use Rattle.std.specs.Cmp.Lexicographic.{pointwise}
-use Rattle.std.proofs.lemmas.Bool.{and_parts, and_from, and_left, and_right, ltb-true, ltb-false, leb-true, lt-ltb, le-ltb, le-leb, lt-leb, cases_Bool, false_from_ne_true}
-use Rattle.std.proofs.lemmas.List.{append-nil, take-append-le, drop-append-le, length-drop, get_or_append_left}
+use Rattle.std.proofs.lemmas.Bool.{and_parts, and_from, false_from_ne_true}
+use Rattle.std.proofs.lemmas.List.{append-nil}
 use Rattle.vs_base.specs.declared.Why.{Why}
-use Rattle.vs_base.specs.declared.Why.TheVariants.{BadMagic, BadLength, TooLarge}
 use Rattle.vs_gtid.specs.declared.Entry.{Entry}
 use Rattle.vs_gtid.specs.Logs.{Log}
 use Rattle.vs_gtid.specs.Positions.{Position}
 use Rattle.vs_log.specs.declared.state.Place.{Place}
-use Rattle.vs_log.specs.declared.state.Place.TheVariants.{Front, Between, Named, Inside}
+use Rattle.vs_log.specs.declared.state.Place.TheVariants.{Between}
 use Rattle.vs_log.specs.declared.state.State.{State}
-use Rattle.vs_log.specs.Events.{Event, length_of, kind_of, flags_of, sort_of, is_held, limit, last_place, magic, joined, IsEvent}
-use Rattle.vs_log.specs.Table.{Rules, step, bytes_with}
-use Rattle.vs_log.specs.Meaning.{front, head_refusal, log_of, at_place, follow, has_magic, log_meant}
-use Rattle.vs_log.specs.Productions.{is_counted, is_nil, Begins, IsCut, IsLog, IsWholeLog, Refuses, Parts, Means}
-use Rattle.vs_log.specs.Laws.{Grows}
+use Rattle.vs_log.specs.Events.{Event, length_of, is_held, magic, joined}
+use Rattle.vs_log.specs.Table.{Rules, step}
+use Rattle.vs_log.specs.Meaning.{head_refusal, log_of, follow, has_magic, log_meant}
+use Rattle.vs_log.specs.Productions.{is_counted, is_nil, Begins, IsCut, IsLog, IsWholeLog, Means}
 use Rattle.vs_log.proofs.Moves.{Moves, step_moves}
 use Rattle.vs_log.proofs.Moves.Moves.{formatted, passed_between, passed_named, passed_inside, based, names, singles, begins, saves, maps_on, tells, ends}
-use Rattle.vs_log.proofs.Cuts.{length_of-append}
 use Rattle.vs_log.proofs.Follows.{means}
 use Rattle.vs_log.proofs.Only.{log_behind, only}
 
 -- entries come behind those that stood
-abbrev Extends : List Entry → List Entry → Type 0
+abbrev pub Extends : List Entry → List Entry → Type 0
 Extends es fs = (later : List Entry) × (fs ≡ es ++ later)
 
 same_entries : (es : List Entry) → Extends es es
@@ -77,10 +74,10 @@ front_fits (suc n) (x ∷ xs) (y ∷ ys) more h =
     let p = and_parts (nat_eq x y) (pointwise nat_eq (take n (xs ++ more)) (take (length (xs ++ more)) ys)) h in
     and_from (nat_eq x y) (pointwise nat_eq (take n xs) (take (length xs) ys)) p.0 (front_fits n xs ys more p.1)
 
-no_magic : (bytes more : List ℕ) → has_magic bytes ≡ false → has_magic (bytes ++ more) ≡ false
+pub no_magic : (bytes more : List ℕ) → has_magic bytes ≡ false → has_magic (bytes ++ more) ≡ false
 no_magic bytes more h = false_from_ne_true _ (λ k. let t : has_magic bytes ≡ true = front_fits 4 bytes magic more k in let f : true ≡ false = sym t ∙ h in cc)
 
-cut_longer : (bytes more : List ℕ) (events : List Event) (rest : List ℕ) → IsCut bytes events rest → IsCut (bytes ++ more) events (rest ++ more)
+pub cut_longer : (bytes more : List ℕ) (events : List Event) (rest : List ℕ) → IsCut bytes events rest → IsCut (bytes ++ more) events (rest ++ more)
 cut_longer bytes more events rest c = record {
   are = ap (λ z. z ++ more) c.are ∙ ap (λ z. magic ++ z) (append_assoc (joined events) rest more);
   whole = c.whole;

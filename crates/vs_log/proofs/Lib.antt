@@ -10,3 +10,4 @@ pub mod Beginnings
 pub mod Only
 pub mod Growth
 pub mod Longest
+pub mod Faults

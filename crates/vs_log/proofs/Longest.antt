@@ -1,5 +1,5 @@
 -- The base and the entries are those of a whole log at the front, and no whole log there has more.
-use Rattle.std.proofs.Common.{◌≡◌, ◌≤◌, ◌+◌, ℕ, Bool, true, false, List, [], ◌∷◌, ◌++◌, length, if◌then◌else◌, Option, refl, ap, sym, subst, ◌∙◌, append_assoc, arith, length-append}
+use Rattle.std.proofs.Common.{◌≡◌, ◌≤◌, ◌+◌, ℕ, Bool, true, false, List, [], ◌∷◌, ◌++◌, length, if◌then◌else◌, refl, ap, sym, subst, ◌∙◌, append_assoc, arith, length-append}
 use Rattle.std.specs.Prelude.{◌⊎◌}
 use Rattle.std.specs.List.{AllByRecursion, filter}
 use Rattle.std.proofs.lemmas.List.{append-nil}
@@ -9,8 +9,8 @@ use Rattle.vs_gtid.specs.Positions.{Position}
 use Rattle.vs_log.specs.declared.state.State.{State}
 use Rattle.vs_log.specs.Events.{Event, length_of, limit, last_place, magic, joined, IsEvent}
 use Rattle.vs_log.specs.Table.{Rules}
-use Rattle.vs_log.specs.Meaning.{front, log_of, log_meant}
-use Rattle.vs_log.specs.Productions.{is_counted, in_turn, Begins, IsCut, IsLog, IsWholeLog, Parts, Means}
+use Rattle.vs_log.specs.Meaning.{log_meant}
+use Rattle.vs_log.specs.Productions.{is_counted, in_turn, Begins, IsCut, IsLog, IsWholeLog, Means}
 use Rattle.vs_log.specs.Laws.{IsOfWholeLog}
 use Rattle.vs_log.proofs.Shapes.{front_all}
 use Rattle.vs_log.proofs.Cuts.{joined-append}

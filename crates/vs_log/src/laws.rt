@@ -1,5 +1,5 @@
 ghost use Rattle.std.specs.Prelude.{List as Items, ℕ};
-ghost use Rattle.vs_log.specs.Laws.{HasNewGtids, IsOfWholeLog, MeansByProductions, TakesBeginnings};
+ghost use Rattle.vs_log.specs.Laws.{Grows, HasNewGtids, IsOfWholeLog, MeansByProductions, TakesBeginnings};
 ghost use Rattle.vs_log.specs.Meaning.{log_meant};
 ghost use Rattle.vs_log.specs.Table.{Rules};
 
@@ -12,6 +12,11 @@ pub fn law_beginnings()
 /// Each list of bytes means one log by the productions: the one that the table gives.
 pub fn law_meaning()
     ensures { (rules : Rules) (bytes : Items ℕ) → MeansByProductions rules bytes }
+{}
+
+/// With more bytes entries come behind those that stood, and a fault stays.
+pub fn law_growth()
+    ensures { (rules : Rules) (bytes more : Items ℕ) → Grows rules bytes more }
 {}
 
 /// The base and the entries are those of a whole log at the front, and no whole log there has more.

@@ -7,5 +7,5 @@ mod laws;
 mod state;
 
 pub use event::Sort;
-pub use laws::{law_beginnings, law_distinct, law_longest, law_meaning};
+pub use laws::{law_beginnings, law_distinct, law_growth, law_longest, law_meaning};
 pub use state::{Counted, Place, State, Statement};
