@@ -11,3 +11,4 @@ pub mod Only
 pub mod Growth
 pub mod Longest
 pub mod Faults
+mod Examples
