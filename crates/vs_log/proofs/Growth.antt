@@ -94,6 +94,15 @@ more_entries rules bytes more = go (means rules bytes) where
   go (◌⊎◌.inr (◌⊎◌.inl short)) = ((log_meant rules (bytes ++ more)).entries, sym (ap (λ (z : Log). z.entries ++ (log_meant rules (bytes ++ more)).entries) short.2))
   go (◌⊎◌.inr (◌⊎◌.inr none)) = ((log_meant rules (bytes ++ more)).entries, sym (ap (λ (z : Log). z.entries ++ (log_meant rules (bytes ++ more)).entries) none.1))
 
+-- where a whole log ends
+abbrev pub whole_state : List Event → Position → List Entry → Position → State
+whole_state events base es known = record { base = base; entries = es; known = known; place = Between (is_nil (filter is_counted (drop 1 events))) }
+
+pub whole_begins : (rules : Rules) (events : List Event) (base : Position) (es : List Entry) (known : Position) → IsLog rules events base es known [] →
+    Begins rules events (whole_state events base es known)
+whole_begins rules [] base es known l = absurd (let h : [] ≡ l.format ∷ l.after = l.are in cc)
+whole_begins rules (e ∷ events) base es known l = record { known = known; opened = []; log = l; begun = (refl, refl); first = refl }
+
 -- a whole log means itself
 pub whole_log : (rules : Rules) (bytes : List ℕ) (base : Position) (es : List Entry) → IsWholeLog rules bytes base es → log_meant rules bytes ≡ record { base = base; entries = es; fault = None }
 unfolding is_held head_refusal
@@ -101,14 +110,9 @@ whole_log rules bytes base es w = sym (only rules bytes _ (◌⊎◌.inl (record
   events = w.events;
   rest = [];
   cut = w.cut;
-  state = record { base = base; entries = es; known = w.known; place = Between (is_nil (filter is_counted (drop 1 w.events))) };
-  begins = begun w.events w.log;
+  state = whole_state w.events base es w.known;
+  begins = whole_begins rules w.events base es w.known w.log;
   why = None;
   refused = (refl, refl);
   is = refl;
 })))
-  where
-    begun : (events : List Event) → IsLog rules events base es w.known [] →
-        Begins rules events (record { base = base; entries = es; known = w.known; place = Between (is_nil (filter is_counted (drop 1 events))) })
-    begun [] l = absurd (let h : [] ≡ l.format ∷ l.after = l.are in cc)
-    begun (e ∷ events) l = record { known = w.known; opened = []; log = l; begun = (refl, refl); first = refl }

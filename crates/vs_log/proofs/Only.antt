@@ -84,7 +84,7 @@ none_taken : (n : ℕ) → take {A = ℕ} n [] ≡ []
 none_taken zero = refl
 none_taken (suc n) = refl
 
-magic_there : (more : List ℕ) → has_magic (magic ++ more) ≡ true
+pub magic_there : (more : List ℕ) → has_magic (magic ++ more) ≡ true
 magic_there more = ap (λ z. pointwise nat_eq [] z) (none_taken (length more))
 
 log_from : (rules : Rules) (bytes : List ℕ) (right : Bool) → has_magic bytes ≡ right →

@@ -19,7 +19,8 @@ pub fn law_growth()
     ensures { (rules : Rules) (bytes more : Items ℕ) → Grows rules bytes more }
 {}
 
-/// The base and the entries are those of a whole log at the front, and no whole log there has more.
+/// The base and the entries are those of the longest front of the bytes that is a whole log.
+/// Where no front is one, there are none.
 pub fn law_longest()
     ensures { (rules : Rules) (bytes : Items ℕ) → IsOfWholeLog rules bytes }
 {}

@@ -5,6 +5,8 @@
 mod event;
 mod laws;
 mod state;
+#[cfg(test)]
+mod tests;
 
 pub use event::Sort;
 pub use laws::{law_beginnings, law_distinct, law_growth, law_longest, law_meaning};
