@@ -22,8 +22,8 @@ unfolding has
 stands_after [] i b c g h = cc
 stands_after (j ∷ rest) i b c g h =
     elim (or_cases _ _ h) [
-      inl w ↦ onward i j g b (within_parts g j w)
-    | inr r ↦ Before-trans i.uuid j.uuid g.uuid i.last j.first j.last g.number c.0.ascends b (stands_after rest j c.1 c.2 g r)
+      | inl w ↦ onward i j g b (within_parts g j w)
+      | inr r ↦ Before-trans i.uuid j.uuid g.uuid i.last j.first j.last g.number c.0.ascends b (stands_after rest j c.1 c.2 g r)
     ]
 
 abbrev number_in : (i : Interval) (v : IsInterval i) (n : ℕ) → i.first ≤ n → n ≤ i.last → Gtid
@@ -41,10 +41,10 @@ leads i j p q a b same =
     let here : has (i ∷ p) g ≡ true = or_left _ _ (within_from g i refl (omega arith) a.0.ascends) in
     let there : has (j ∷ q) g ≡ true = sym (same g) ∙ here in
     elim (or_cases _ _ there) [
-      inl w ↦ let m = within_parts g j w in inr (m.0, m.1)
-    | inr r ↦ elim (stands_after q j b.1 b.2 g r) [
-        inl e ↦ inl e
-      | inr e ↦ let ascends = b.0.ascends in inr (e.0, omega arith)
+      | inl w ↦ let m = within_parts g j w in inr (m.0, m.1)
+      | inr r ↦ elim (stands_after q j b.1 b.2 g r) [
+        | inl e ↦ inl e
+        | inr e ↦ let ascends = b.0.ascends in inr (e.0, omega arith)
       ]
     ]
 
@@ -54,19 +54,19 @@ reaches : (i j : Interval) (p q : Position) → IsCanonical (i ∷ p) → IsCano
 unfolding has
 reaches i j p q a b same e f =
     elim (cases_lt i.last j.last) [
-      inl less ↦
-      let ascends = a.0.ascends in
-      let g = number_in j b.0 (i.last + 1) (omega arith) (omega arith) in
-      let there : has (j ∷ q) g ≡ true = or_left _ _ (within_from g j refl (omega arith) (omega arith)) in
-      let here : has (i ∷ p) g ≡ true = same g ∙ there in
-      elim (or_cases _ _ here) [
-        inl w ↦ let m = within_parts g i w in absurd (omega arith)
-      | inr r ↦ elim (stands_after p i a.1 a.2 g r) [
-          inl x ↦ absurd (not_less i.uuid j.uuid e x)
-        | inr x ↦ absurd (omega arith)
-        ]
-      ]
-    | inr rest ↦ rest
+      | inl less ↦
+          let ascends = a.0.ascends in
+          let g = number_in j b.0 (i.last + 1) (omega arith) (omega arith) in
+          let there : has (j ∷ q) g ≡ true = or_left _ _ (within_from g j refl (omega arith) (omega arith)) in
+          let here : has (i ∷ p) g ≡ true = same g ∙ there in
+          elim (or_cases _ _ here) [
+            | inl w ↦ let m = within_parts g i w in absurd (omega arith)
+            | inr r ↦ elim (stands_after p i a.1 a.2 g r) [
+              | inl x ↦ absurd (not_less i.uuid j.uuid e x)
+              | inr x ↦ absurd (omega arith)
+            ]
+          ]
+      | inr rest ↦ rest
     ]
 
 interval_alike : (i j : Interval) → i.uuid ≡ j.uuid → i.first ≡ j.first → i.last ≡ j.last → i ≡ j
@@ -77,17 +77,17 @@ heads_alike : (i j : Interval) (p q : Position) → IsCanonical (i ∷ p) → Is
 heads_alike i j p q a b same =
     let back : SameSet (j ∷ q) (i ∷ p) = λ g. sym (same g) in
     elim (leads i j p q a b same) [
-      inl x ↦ elim (leads j i q p b a back) [
-        inl y ↦ absurd (not_less j.uuid j.uuid refl (nat_list_cmp_total.trans j.uuid i.uuid j.uuid x y))
-      | inr y ↦ absurd (not_less j.uuid i.uuid (sym y.0) x)
+      | inl x ↦ elim (leads j i q p b a back) [
+        | inl y ↦ absurd (not_less j.uuid j.uuid refl (nat_list_cmp_total.trans j.uuid i.uuid j.uuid x y))
+        | inr y ↦ absurd (not_less j.uuid i.uuid (sym y.0) x)
       ]
-    | inr x ↦ elim (leads j i q p b a back) [
-        inl y ↦ absurd (not_less i.uuid j.uuid (sym x.0) y)
-      | inr y ↦
-        let f : i.first ≡ j.first = omega arith in
-        let r : j.last ≤ i.last = reaches i j p q a b same y.0 f in
-        let s : i.last ≤ j.last = reaches j i q p b a back x.0 (sym f) in
-        interval_alike i j y.0 f (omega arith)
+      | inr x ↦ elim (leads j i q p b a back) [
+        | inl y ↦ absurd (not_less i.uuid j.uuid (sym x.0) y)
+        | inr y ↦
+            let f : i.first ≡ j.first = omega arith in
+            let r : j.last ≤ i.last = reaches i j p q a b same y.0 f in
+            let s : i.last ≤ j.last = reaches j i q p b a back x.0 (sym f) in
+            interval_alike i j y.0 f (omega arith)
       ]
     ]
 
@@ -95,8 +95,8 @@ heads_alike i j p q a b same =
 first_alone : (i : Interval) (p : Position) → IsCanonical (i ∷ p) → (g : Gtid) → is_within g i ≡ true → has p g ≡ false
 first_alone i p c g w =
     false_from_ne_true (has p g) (λ h.
-      let m = within_parts g i w in
-      elim (stands_after p i c.1 c.2 g h) [ inl x ↦ not_less i.uuid g.uuid m.0 x | inr x ↦ absurd (omega arith) ])
+    let m = within_parts g i w in
+    elim (stands_after p i c.1 c.2 g h) [ inl x ↦ not_less i.uuid g.uuid m.0 x | inr x ↦ absurd (omega arith) ])
 
 has_rest : (i : Interval) (p : Position) (g : Gtid) → is_within g i ≡ false → has (i ∷ p) g ≡ has p g
 unfolding has
@@ -105,9 +105,9 @@ has_rest i p g w = rw w refl
 -- equal sets with the first interval in common have equal rests
 tails_alike : (i : Interval) (p q : Position) → IsCanonical (i ∷ p) → IsCanonical (i ∷ q) → SameSet (i ∷ p) (i ∷ q) → SameSet p q
 tails_alike i p q a b same g = elim (cases_Bool (is_within g i)) [
-      inl w ↦ first_alone i p a g w ∙ sym (first_alone i q b g w)
-    | inr w ↦ sym (has_rest i p g w) ∙ (same g ∙ has_rest i q g w)
-    ]
+  | inl w ↦ first_alone i p a g w ∙ sym (first_alone i q b g w)
+  | inr w ↦ sym (has_rest i p g w) ∙ (same g ∙ has_rest i q g w)
+]
 
 not_empty : (i : Interval) (p : Position) → IsCanonical (i ∷ p) → SameSet [] (i ∷ p) → ⊥
 unfolding has

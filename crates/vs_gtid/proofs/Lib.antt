@@ -1,3 +1,4 @@
+pub mod AddLemmas
 pub mod EqualSets
 pub mod JoinLemmas
 pub mod Order

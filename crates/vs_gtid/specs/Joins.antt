@@ -2,7 +2,8 @@
 use Rattle.vs_base.specs.declared.gtid.Gtid.{Gtid}
 use Rattle.vs_gtid.specs.declared.interval.Interval.{Interval}
 use Rattle.vs_gtid.specs.Positions.{Position}
-use Rattle.std.specs.Prelude.{◌+◌, Bool, ◌&&◌, ◌||◌, List, [], ◌∷◌, nat_eq, nat_lt, min, max, if◌then◌else◌}
+use Rattle.std.specs.Prelude.{ℕ, ◌+◌, Bool, ◌&&◌, ◌||◌, List, [], ◌∷◌, nat_eq, nat_lt, min, max, if◌then◌else◌}
+use Rattle.std.specs.List.{prefix_len}
 use Rattle.std.specs.Ordering.{nat_cmp, is_lt}
 use Rattle.std.specs.Cmp.Lexicographic.{pointwise, slice_cmp}
 
@@ -34,3 +35,7 @@ alone g = record { uuid = g.uuid; first = g.number; last = g.number }
 -- the set with the GTID too
 unfoldable pub added : Position → Gtid → Position
 added p g = joined (alone g) p
+
+-- k's place in a canonical list: behind the intervals that stand before it
+abbrev pub place : Interval → Position → ℕ
+place k p = prefix_len (λ (i : Interval). stands_before i k) p

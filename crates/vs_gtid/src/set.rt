@@ -1,8 +1,10 @@
-ghost use Rattle.std.specs.Prelude.{◌≡◌, []};
+ghost use Rattle.std.specs.Prelude.{◌≡◌, ◌≤◌, ◌<◌, ◌⊎◌, ◌↔◌, [], length, IfErr, IfOk, OnErr, OnOk};
 
-use crate::Interval;
+use crate::add::add_to;
+use crate::{GtidRefusal, Interval, OutOfMemory};
 use std::alloc::Global;
 use std::marker::Model;
+use vs_base::Gtid;
 
 /// A finite set of GTIDs: a position of a shard's log. Its intervals are kept in the one canonical
 /// order, so equal sets are equal values. There are at most 1,024 of them.
@@ -24,6 +26,9 @@ impl Model for GtidSet {
 }
 
 impl GtidSet {
+    ghost use Rattle.vs_gtid.specs.Joins.{added};
+    ghost use Rattle.vs_gtid.specs.Positions.{IsCanonical, has};
+
     /// The empty set.
     pub fn new(alloc: Global) -> GtidSet
         ensures { result ≡ [] }
@@ -31,5 +36,42 @@ impl GtidSet {
         GtidSet {
             intervals: Vec::new(alloc),
         }
+    }
+
+    /// Whether the GTID is in the set.
+    #[tactic(auto, unfolding(crate::specs::Positions::has))]
+    pub fn contains(&self, gtid: &Gtid) -> bool
+        ensures { result ≡ has self.now gtid.now }
+    {
+        self.intervals
+            .iter()
+            .any(|interval| interval.contains(gtid))
+    }
+
+    /// How many intervals the set has.
+    pub fn intervals(&self) -> usize
+        ensures count { result ≡ length self.now }
+        ensures canonical { IsCanonical self.now }
+        ensures few { length self.now ≤ 1024 }
+    {
+        self.intervals.len()
+    }
+
+    pub fn copy(&self, alloc: Global) -> Result<GtidSet, OutOfMemory>
+        ensures { IfOk result (λ s. s ≡ self.now) }
+    {
+        Ok(GtidSet {
+            intervals: Vec::from_slice(alloc, self.intervals.as_slice())?,
+        })
+    }
+
+    /// Adds the GTID. The next number of the last interval takes constant time and no memory.
+    pub fn add(&mut self, gtid: Gtid) -> Result<(), GtidRefusal>
+        ensures ok { OnOk result (self.new ≡ added self.old gtid) }
+        ensures err { OnErr result (self.new ≡ self.old) }
+        ensures too_many { (result ≡ Err GtidRefusal.TooManyIntervals) ↔ (1024 < length (added self.old gtid)) }
+        ensures refusals { IfErr result (λ e. (e ≡ GtidRefusal.TooManyIntervals) ⊎ (e ≡ GtidRefusal.Memory)) }
+    {
+        add_to(&mut self.intervals, gtid)
     }
 }

@@ -2,13 +2,16 @@
 //! The filter is a parameter, and so is the meaning of a log's bytes.
 #![tactic(auto)]
 
+#[cfg(test)]
+mod tests;
+
 ghost use Rattle.std.specs.Prelude.{◌≡◌, ◌++◌, List, ℕ};
 ghost use Rattle.vs_base.specs.declared.ShardName.{ShardName};
 ghost use Rattle.vs_gtid.specs.declared.Entry.{Entry};
 ghost use Rattle.vs_gtid.specs.declared.JournalValue.{JournalValue};
 ghost use Rattle.vs_model.specs.Copy.{Filter};
 ghost use Rattle.vs_model.specs.Frames.Frame.{AllCopied, Beat, Halt, Switch, Tx};
-ghost use Rattle.vs_model.specs.Frames.{Frame};
+ghost use Rattle.vs_model.specs.Frames.{Frame, last_vector};
 ghost use Rattle.vs_model.specs.Legal.{AllCopiedFollows, HasGathered, Legal, NoneCopies};
 ghost use Rattle.vs_model.specs.Logs.{Cluster, HaveDistinctGtids, IsPositionAfter, Log, LogsAreDistinct, due, stop};
 ghost use Rattle.vs_model.specs.Names.{Position};
@@ -21,6 +24,12 @@ pub fn law_steps()
         AllCopiedFollows fs → Steps cluster rules v0 fs → Legal cluster rules v0 fs }
     ensures only { (cluster : Cluster) (rules : Filter) (v0 : Vector) (fs : List Frame) →
         Legal cluster rules v0 fs → Steps cluster rules v0 fs }
+{}
+
+/// A client that resumes at its last vector has a legal list of all that it got.
+pub fn law_resume()
+    ensures { (cluster : Cluster) (rules : Filter) (v0 : Vector) (fs gs : List Frame) → LogsAreDistinct cluster →
+        Legal cluster rules v0 fs → Legal cluster rules (last_vector v0 fs) gs → Legal cluster rules v0 (fs ++ gs) }
 {}
 
 /// Each kind of frame, sent by the rules that a program keeps, is a lawful step.

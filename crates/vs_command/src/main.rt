@@ -1,0 +1,7 @@
+//! The program `vstreamd`: the change stream of a shard, on standard output.
+#![tactic(auto)]
+
+mod frame;
+mod sending;
+
+fn main() {}

@@ -1,0 +1,104 @@
+ghost use Rattle.std.specs.Prelude.{◌≡◌, ◌≤◌, IfOk, length};
+ghost use Rattle.vs_wire.specs.Fields.{bytes_in, field_in, fixed32_in, fixed64_in, varint_value_in, sized_in, tag_in, value_in};
+ghost use Rattle.vs_wire.specs.Seen.{Gives, seen_value};
+
+use crate::Flaw;
+use crate::varint::read_varint;
+
+/// A field of a message. `at` is where its tag begins, counted from the message's front.
+#[derive(Debug, Clone, Copy, PartialEq, Eq)]
+pub struct Field<'a> {
+    pub number: u32,
+    pub at: usize,
+    pub value: FieldValue<'a>,
+}
+
+/// The value of a field, by wire type. The fixed ones are little-endian as they stand.
+#[derive(Debug, Clone, Copy, PartialEq, Eq)]
+pub enum FieldValue<'a> {
+    Varint(u64),
+    Fixed64([u8; 8]),
+    Bytes(&'a [u8]),
+    Fixed32([u8; 4]),
+}
+
+/// The number and the value of the field at the front, and how many bytes it takes.
+#[tactic(auto, unfolding(crate::specs::Fields::field_in))]
+pub(crate) fn read_field<'a>(bytes: &'a [u8]) -> Result<(u32, FieldValue<'a>, usize), Flaw>
+    ensures value { Gives (λ f. (f.0, seen_value f.1, f.2)) result (field_in bytes.now) }
+    ensures within { IfOk result (λ f. f.2 ≤ length bytes.now) }
+{
+    let (tag, taken) = read_tag(bytes)?;
+    let (value, size) = read_value((tag % 8) as u8, &bytes[taken..])?;
+    if tag / 8 == 0 {
+        return Err(Flaw::ZeroField);
+    }
+    Ok((tag / 8, value, taken + size))
+}
+
+#[tactic(auto, unfolding(crate::specs::Fields::tag_in))]
+fn read_tag(bytes: &[u8]) -> Result<(u32, usize), Flaw>
+    ensures value { result ≡ tag_in bytes.now }
+    ensures within { IfOk result (λ v. v.1 ≤ length bytes.now) }
+{
+    let (tag, taken) = read_varint(bytes)?;
+    if tag > 0xffff_ffff {
+        return Err(Flaw::Long);
+    }
+    Ok((tag as u32, taken))
+}
+
+#[tactic(auto, unfolding(crate::specs::Fields::value_in))]
+fn read_value<'a>(kind: u8, bytes: &'a [u8]) -> Result<(FieldValue<'a>, usize), Flaw>
+    ensures value { Gives (λ v. (seen_value v.0, v.1)) result (value_in kind bytes.now) }
+    ensures within { IfOk result (λ v. v.1 ≤ length bytes.now) }
+{
+    match kind {
+        0 => read_number(bytes),
+        1 => read_fixed64(bytes),
+        2 => read_sized(bytes),
+        5 => read_fixed32(bytes),
+        _ => Err(Flaw::BadKind(kind)),
+    }
+}
+
+fn read_number<'a>(bytes: &'a [u8]) -> Result<(FieldValue<'a>, usize), Flaw>
+    ensures value { Gives (λ v. (seen_value v.0, v.1)) result (varint_value_in bytes.now) }
+    ensures within { IfOk result (λ v. v.1 ≤ length bytes.now) }
+{
+    let (n, taken) = read_varint(bytes)?;
+    Ok((FieldValue::Varint(n), taken))
+}
+
+fn read_fixed64<'a>(bytes: &'a [u8]) -> Result<(FieldValue<'a>, usize), Flaw>
+    ensures value { Gives (λ v. (seen_value v.0, v.1)) result (fixed64_in bytes.now) }
+    ensures within { IfOk result (λ v. v.1 ≤ length bytes.now) }
+{
+    match bytes.split_first_chunk::<8>() {
+        Some((chunk, _)) => Ok((FieldValue::Fixed64(*chunk), 8)),
+        None => Err(Flaw::Cut),
+    }
+}
+
+fn read_fixed32<'a>(bytes: &'a [u8]) -> Result<(FieldValue<'a>, usize), Flaw>
+    ensures value { Gives (λ v. (seen_value v.0, v.1)) result (fixed32_in bytes.now) }
+    ensures within { IfOk result (λ v. v.1 ≤ length bytes.now) }
+{
+    match bytes.split_first_chunk::<4>() {
+        Some((chunk, _)) => Ok((FieldValue::Fixed32(*chunk), 4)),
+        None => Err(Flaw::Cut),
+    }
+}
+
+fn read_sized<'a>(bytes: &'a [u8]) -> Result<(FieldValue<'a>, usize), Flaw>
+    ensures value { Gives (λ v. (seen_value v.0, v.1)) result (sized_in bytes.now) }
+    ensures within { IfOk result (λ v. v.1 ≤ length bytes.now) }
+{
+    let (len, taken) = read_varint(bytes)?;
+    let rest = &bytes[taken..];
+    if len > rest.len() as u64 {
+        return Err(Flaw::Cut);
+    }
+    let len = len as usize;
+    Ok((FieldValue::Bytes(&rest[..len]), taken + len))
+}
