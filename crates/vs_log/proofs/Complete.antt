@@ -1,5 +1,5 @@
 -- What begins a log by the productions, the table takes.
-use Rattle.std.proofs.Common.{◌≡◌, ◌≤◌, ◌+◌, ℕ, Bool, true, false, List, [], ◌∷◌, ◌++◌, map, length, drop, if◌then◌else◌, Option, Some, None, Result, Ok, Err, refl, ap, sym, subst, ◌∙◌, append_assoc, arith}
+use Rattle.std.proofs.Common.{◌≡◌, ◌≤◌, ◌+◌, ℕ, Bool, true, false, List, [], ◌∷◌, ◌++◌, map, drop, if◌then◌else◌, Option, Some, None, Result, Ok, refl, ap, sym, subst, ◌∙◌, append_assoc, arith}
 use Rattle.std.specs.Prelude.{◌⊎◌}
 use Rattle.std.specs.List.{filter, AllByRecursion}
 use Rattle.std.proofs.lemmas.List.{append-nil}
@@ -11,18 +11,17 @@ use Rattle.vs_gtid.specs.declared.Work.TheVariants.{Rows, Ddl, Other, Journal}
 use Rattle.vs_gtid.specs.declared.Entry.{Entry}
 use Rattle.vs_gtid.specs.Positions.{Position}
 use Rattle.vs_gtid.specs.Joins.{added}
-use Rattle.vs_log.specs.declared.state.Statement.TheVariants.{Begin, Savepoint}
 use Rattle.vs_log.specs.declared.state.Counted.{Counted}
-use Rattle.vs_log.specs.declared.state.Counted.TheVariants.{Changed, Journaled}
+use Rattle.vs_log.specs.declared.state.Counted.TheVariants.{Changed}
 use Rattle.vs_log.specs.declared.state.Place.{Place}
 use Rattle.vs_log.specs.declared.state.Place.TheVariants.{Front, Between, Named, Inside}
 use Rattle.vs_log.specs.declared.state.State.{State}
-use Rattle.vs_log.specs.Events.{Event, time_of, length_of, body_of, limit}
+use Rattle.vs_log.specs.Events.{Event, length_of, body_of, limit}
 use Rattle.vs_log.specs.Table.{Rules, one_more, more_work, step}
 use Rattle.vs_log.specs.Meaning.{front}
-use Rattle.vs_log.specs.Productions.{is_counted, total, in_turn, is_nil, is_first, IsBase, IsMiddle, IsWork, IsGtid, IsUnended, IsSingle, IsTransaction, IsEntry, IsNew, AreEntries, IsLog, IsBegun, Stands, Begins}
+use Rattle.vs_log.specs.Productions.{is_counted, total, in_turn, is_nil, is_first, IsBase, IsMiddle, IsWork, IsGtid, IsUnended, IsSingle, IsTransaction, IsEntry, IsNew, AreEntries, IsBegun, Stands, Begins}
 use Rattle.vs_log.proofs.Moves.Moves.{formatted, based, names, singles, begins, saves, maps_on, tells, ends}
-use Rattle.vs_log.proofs.Shapes.{total-append, left_nil, no_entry}
+use Rattle.vs_log.proofs.Shapes.{total-append, no_entry, front_all}
 use Rattle.vs_log.proofs.Takes.{walk, walk_one, walk-append, takes_counted, filter_walk}
 
 abbrev standing : Position → List Entry → Position → Place → State
@@ -198,10 +197,6 @@ kept_all P (e ∷ es) a = go (is_counted e) (kept_all P es a.1) where
   go : (b : Bool) → AllByRecursion P (filter is_counted es) → AllByRecursion P (if b then e ∷ filter is_counted es else filter is_counted es)
   go true rest = (a.0, rest)
   go false rest = rest
-
-front_all : {A : Type 0} (P : A → Type 0) (xs ys : List A) → AllByRecursion P (xs ++ ys) → AllByRecursion P xs
-front_all P [] ys a = tt
-front_all P (x ∷ xs) ys a = (a.0, front_all P xs ys a.1)
 
 -- whether any event counted, by the parts
 empty_parts : (rules : Rules) (base known : Position) (entries : List Entry) (previous : List Event) (groups : List (List Event)) (opened : List Event) → AreEntries rules base groups entries known →

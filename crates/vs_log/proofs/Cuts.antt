@@ -1,11 +1,12 @@
 -- How bytes are cut into events.
-use Rattle.std.proofs.Common.{◌≡◌, ◌≤◌, ◌<◌, ◌+◌, ◌*◌, ◌&&◌, ℕ, zero, suc, Bool, true, false, List, [], ◌∷◌, ◌++◌, length, take, drop, nat_le, nat_eq, get_or, refl, ap, sym, subst, ◌∙◌, append_assoc, arith, length-append}
-use Rattle.std.specs.List.{AllByRecursion}
-use Rattle.std.specs.Cmp.Lexicographic.{pointwise, same_text}
+use Rattle.std.proofs.Common.{◌≡◌, ◌≤◌, ◌+◌, ◌&&◌, ℕ, zero, suc, true, List, [], ◌∷◌, ◌++◌, length, take, drop, nat_le, get_or, refl, ap, sym, ◌∙◌, append_assoc, arith, length-append}
+use Rattle.std.specs.Cmp.Lexicographic.{same_text}
 use Rattle.std.proofs.lemmas.Bool.{leb-true, le-leb, and_parts, and_from}
-use Rattle.std.proofs.lemmas.List.{append-nil, take_at, drop_at, take_all, length-take-le, length-drop, take-append-drop, drop-append-le, get_or_append_left}
+use Rattle.std.proofs.lemmas.List.{append-nil, take_at, drop_at, length-take-le, length-drop, take-append-drop, drop-append-le, get_or_append_left}
 use Rattle.byteorder.specs.Endian.{little_from}
-use Rattle.vs_log.specs.Events.{Event, length_of, is_held, last_place, magic, joined, IsEvent}
+use Rattle.vs_log.specs.Events.{Event, length_of, kind_of, flags_of, sort, sort_of, is_held, last_place, magic, joined, IsEvent}
+use Rattle.vs_log.specs.declared.state.Place.{Place}
+use Rattle.vs_log.specs.Table.{sum_with, bytes_with}
 use Rattle.vs_log.specs.Meaning.{has_magic}
 use Rattle.vs_log.specs.Productions.{IsCut}
 use Rattle.vs_log.proofs.Shapes.{all_more}
@@ -22,6 +23,19 @@ unfolding length_of
 length_of-append e more h =
     ap (λ z. little_from 0 4 z) (drop-append-le 9 e more (omega arith))
     ∙ number_in_front 0 4 (drop 9 e) more (omega (arith, length-drop 9 e))
+
+sort_of-append : (e more : List ℕ) → 19 ≤ length e → sort_of (e ++ more) ≡ sort_of e
+unfolding sort_of kind_of flags_of
+sort_of-append e more h =
+    let kind : get_or (e ++ more) 4 0 ≡ get_or e 4 0 = get_or_append_left e more 0 4 (omega arith) in
+    let flags : little_from 0 2 (drop 17 (e ++ more)) ≡ little_from 0 2 (drop 17 e) =
+    ap (λ z. little_from 0 2 z) (drop-append-le 17 e more (omega arith)) ∙ number_in_front 0 2 (drop 17 e) more (omega (arith, length-drop 17 e)) in
+    ap (λ z. sort z (little_from 0 2 (drop 17 (e ++ more)))) kind ∙ ap (λ z. sort (get_or e 4 0) z) flags
+
+pub bytes_with-append : (place : Place) (e more : List ℕ) → 19 ≤ length e → bytes_with place (e ++ more) ≡ bytes_with place e
+unfolding bytes_with
+bytes_with-append place e more h =
+    ap (λ z. sum_with place z (length_of (e ++ more))) (sort_of-append e more h) ∙ ap (λ z. sum_with place (sort_of e) z) (length_of-append e more h)
 
 -- what a test of the rest's front tells
 pub record Holds (at : ℕ) (rest : List ℕ) : Type 0 where

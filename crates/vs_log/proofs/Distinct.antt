@@ -1,10 +1,9 @@
 -- No GTID of a log stands twice, or lies in its base.
-use Rattle.std.proofs.Common.{◌≡◌, ℕ, Bool, false, List, [], ◌∷◌, Option, refl, ap, sym, subst, ◌∙◌}
+use Rattle.std.proofs.Common.{◌≡◌, ℕ, false, List, [], ◌∷◌, refl, sym, subst, ◌∙◌}
 use Rattle.std.specs.Prelude.{◌⊎◌}
 use Rattle.std.specs.List.{AllByRecursion, list_any}
 use Rattle.std.proofs.lemmas.Bool.{or_parts, or_from}
 use Rattle.vs_base.specs.declared.Gtid.{Gtid}
-use Rattle.vs_base.specs.declared.Why.{Why}
 use Rattle.vs_base.specs.Names.{same_gtid}
 use Rattle.vs_gtid.specs.declared.Entry.{Entry}
 use Rattle.vs_gtid.specs.Positions.{Position, has}
@@ -14,7 +13,7 @@ use Rattle.vs_gtid.proofs.JoinLemmas.{has-added}
 use Rattle.vs_log.specs.declared.state.State.{State}
 use Rattle.vs_log.specs.Events.{Event}
 use Rattle.vs_log.specs.Table.{Rules}
-use Rattle.vs_log.specs.Meaning.{front, log_of, log_meant}
+use Rattle.vs_log.specs.Meaning.{log_meant}
 use Rattle.vs_log.specs.Productions.{AreEntries, Begins, Means}
 use Rattle.vs_log.specs.Laws.{HasNewGtids}
 use Rattle.vs_log.proofs.Follows.{means}

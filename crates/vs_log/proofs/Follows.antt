@@ -5,7 +5,6 @@ use Rattle.std.proofs.lemmas.Bool.{cases_lt}
 use Rattle.std.proofs.lemmas.List.{take_all, drop_all, length-drop, take-append-drop}
 use Rattle.vs_base.specs.declared.Why.{Why}
 use Rattle.vs_base.specs.declared.Why.TheVariants.{BadMagic}
-use Rattle.vs_gtid.specs.Logs.{Log}
 use Rattle.vs_log.specs.declared.state.State.{State}
 use Rattle.vs_log.specs.Events.{Event, length_of, is_held, last_place, magic, joined}
 use Rattle.vs_log.specs.Table.{Rules, step}
@@ -89,7 +88,7 @@ goes rules bytes (suc n) events at s rest c b p l = turn rules bytes n events at
 whole_magic : (bytes : List ℕ) → has_magic bytes ≡ true → 4 ≤ length bytes → bytes ≡ magic ++ drop 4 bytes
 whole_magic bytes h l = sym (take-append-drop 4 bytes) ∙ ap (λ z. z ++ drop 4 bytes) (magic_front bytes h ∙ take_all (length bytes) magic l)
 
-short_magic : (rules : Rules) (bytes : List ℕ) → has_magic bytes ≡ true → length bytes < 4 → follow (suc (length bytes)) rules 4 front (drop 4 bytes) ≡ log_of front 0 None
+pub short_magic : (rules : Rules) (bytes : List ℕ) → has_magic bytes ≡ true → length bytes < 4 → follow (suc (length bytes)) rules 4 front (drop 4 bytes) ≡ log_of front 0 None
 unfolding follow is_held head_refusal
 short_magic rules bytes h l = ap (λ z. follow (suc (length bytes)) rules 4 front z) (drop_all 4 bytes (omega arith))
 

@@ -6,3 +6,9 @@ pub mod Follows
 pub mod Distinct
 pub mod Takes
 pub mod Complete
+pub mod Beginnings
+pub mod Only
+pub mod Growth
+pub mod Longest
+pub mod Faults
+mod Examples

@@ -1,13 +1,13 @@
 -- The positive lines of the table: what an event may do where a log stands.
-use Rattle.std.proofs.Common.{◌≡◌, ◌≤◌, ◌+◌, ℕ, Bool, true, false, List, [], ◌∷◌, ◌++◌, length, nat_lt, nat_le, if◌then◌else◌, Option, Some, None, Result, Ok, Err, refl, ap, sym, subst, ◌∙◌}
+use Rattle.std.proofs.Common.{◌≡◌, ◌≤◌, ◌+◌, ℕ, Bool, true, false, List, [], ◌∷◌, ◌++◌, length, nat_lt, if◌then◌else◌, Option, Some, None, Result, Ok, Err, refl, ap, subst, ◌∙◌}
 use Rattle.std.specs.Prelude.{◌⊎◌}
 use Rattle.std.proofs.lemmas.Bool.{ltb-false}
 use Rattle.vs_base.specs.declared.Gtid.{Gtid}
 use Rattle.vs_base.specs.declared.Why.{Why}
-use Rattle.vs_base.specs.declared.Why.TheVariants.{BadEvent, BadGtid, RepeatedGtid, TooManyIntervals, JournalNotAlone}
+use Rattle.vs_base.specs.declared.Why.TheVariants.{BadEvent}
 use Rattle.vs_gtid.specs.declared.Work.{Work}
 use Rattle.vs_gtid.specs.declared.Work.TheVariants.{Rows}
-use Rattle.vs_gtid.specs.Positions.{Position, has}
+use Rattle.vs_gtid.specs.Positions.{Position}
 use Rattle.vs_gtid.specs.Joins.{added}
 use Rattle.vs_log.specs.declared.event.Sort.{Sort}
 use Rattle.vs_log.specs.declared.event.Sort.TheVariants.{PassedOver, FormatEvent, PreviousEvent, GtidEvent, QueryEvent, XidEvent, MapEvent, RowsEvent}
@@ -19,7 +19,7 @@ use Rattle.vs_log.specs.declared.state.Place.TheVariants.{Front, Between, Named,
 use Rattle.vs_log.specs.declared.state.State.{State}
 use Rattle.vs_log.specs.Events.{Event, kind_of, length_of, body_of, sort_of, limit}
 use Rattle.vs_log.specs.Table.{Rules, ◌>>=◌, unless, format_refusal, gtid_in, single_work, more_work, bytes_with, ended, with_base, new_gtid, named, first_query, later_query, told, line, step}
-use Rattle.vs_log.specs.Productions.{IsFormat, IsGtid, Says, IsXid, IsMap, Tells, Ends, IsNew}
+use Rattle.vs_log.specs.Productions.{IsFormat, IsGtid, Says, IsMap, Tells, Ends, IsNew}
 
 -- the state with the event's bytes in the open transaction
 abbrev pub inside : State → Event → Gtid → ℕ → List (List ℕ) → Work → State

@@ -1,10 +1,9 @@
 -- What the shapes of a log are when an event comes behind.
-use Rattle.std.proofs.Common.{◌≡◌, ◌≤◌, ◌+◌, ℕ, Bool, true, false, List, [], ◌∷◌, ◌++◌, map, length, if◌then◌else◌, Option, Some, None, refl, ap, sym, subst, ◌∙◌, append_assoc, arith}
+use Rattle.std.proofs.Common.{◌≡◌, ◌+◌, ℕ, true, false, List, [], ◌∷◌, ◌++◌, if◌then◌else◌, Option, Some, None, refl, ap, sym, subst, ◌∙◌, append_assoc, arith}
 use Rattle.std.specs.Prelude.{◌⊎◌}
 use Rattle.std.specs.List.{filter, AllByRecursion}
 use Rattle.std.proofs.lemmas.List.{append-nil, map-append}
 use Rattle.std.proofs.lemmas.List.Elements.{filter-append}
-use Rattle.vs_base.specs.declared.Gtid.{Gtid}
 use Rattle.vs_gtid.specs.declared.Work.{Work}
 use Rattle.vs_gtid.specs.declared.Work.TheVariants.{Rows, Ddl, Other, Journal}
 use Rattle.vs_gtid.specs.declared.Entry.{Entry}
@@ -12,13 +11,17 @@ use Rattle.vs_gtid.specs.Positions.{Position}
 use Rattle.vs_gtid.specs.Joins.{added}
 use Rattle.vs_log.specs.declared.state.Counted.{Counted}
 use Rattle.vs_log.specs.declared.state.Counted.TheVariants.{Changed, Journaled}
-use Rattle.vs_log.specs.Events.{Event, length_of, sort_of, body_of}
+use Rattle.vs_log.specs.Events.{Event, body_of}
 use Rattle.vs_log.specs.Table.{Rules, one_more, more_work}
-use Rattle.vs_log.specs.Productions.{is_counted, total, in_turn, is_nil, IsMiddle, IsWork, IsEntry, IsSingle, IsTransaction, IsNew, AreEntries}
+use Rattle.vs_log.specs.Productions.{is_counted, total, in_turn, is_nil, IsMiddle, IsWork, IsEntry, IsNew, AreEntries}
 
 pub all_more : {A : Type 0} (P : A → Type 0) (xs : List A) (x : A) → AllByRecursion P xs → P x → AllByRecursion P (xs ++ x ∷ [])
 all_more P [] x a p = (p, tt)
 all_more P (y ∷ ys) x a p = (a.0, all_more P ys x a.1 p)
+
+pub front_all : {A : Type 0} (P : A → Type 0) (xs ys : List A) → AllByRecursion P (xs ++ ys) → AllByRecursion P xs
+front_all P [] ys a = tt
+front_all P (x ∷ xs) ys a = (a.0, front_all P xs ys a.1)
 
 pub total-append : (xs ys : List Event) → total (xs ++ ys) ≡ total xs + total ys
 total-append [] ys = omega arith

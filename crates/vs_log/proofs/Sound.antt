@@ -1,9 +1,8 @@
 -- What the table takes begins a log.
-use Rattle.std.proofs.Common.{◌≡◌, ◌≤◌, ◌+◌, ℕ, Bool, true, false, List, [], ◌∷◌, ◌++◌, map, length, take, drop, if◌then◌else◌, Option, Some, None, Result, Ok, Err, refl, ap, sym, subst, ◌∙◌, append_assoc, arith}
+use Rattle.std.proofs.Common.{◌≡◌, ◌≤◌, ◌+◌, ℕ, true, false, List, [], ◌∷◌, ◌++◌, drop, Some, Ok, refl, ap, sym, subst, ◌∙◌, append_assoc, arith}
 use Rattle.std.specs.Prelude.{◌⊎◌}
-use Rattle.std.specs.List.{filter, AllByRecursion}
+use Rattle.std.specs.List.{filter}
 use Rattle.std.proofs.lemmas.List.{append-nil}
-use Rattle.std.proofs.lemmas.List.Elements.{filter-append}
 use Rattle.vs_base.specs.declared.Gtid.{Gtid}
 use Rattle.vs_gtid.specs.declared.Work.{Work}
 use Rattle.vs_gtid.specs.declared.Work.TheVariants.{Rows}
@@ -11,17 +10,17 @@ use Rattle.vs_gtid.specs.declared.Entry.{Entry}
 use Rattle.vs_gtid.specs.Positions.{Position}
 use Rattle.vs_gtid.specs.Joins.{added}
 use Rattle.vs_log.specs.declared.event.Sort.{Sort}
-use Rattle.vs_log.specs.declared.event.Sort.TheVariants.{PassedOver, FormatEvent, PreviousEvent, GtidEvent, QueryEvent, XidEvent, MapEvent, RowsEvent}
-use Rattle.vs_log.specs.declared.state.Statement.TheVariants.{Begin, Savepoint}
+use Rattle.vs_log.specs.declared.event.Sort.TheVariants.{PassedOver, PreviousEvent}
+use Rattle.vs_log.specs.declared.state.Statement.TheVariants.{Begin}
 use Rattle.vs_log.specs.declared.state.Statement.{Statement}
 use Rattle.vs_log.specs.declared.state.Counted.{Counted}
 use Rattle.vs_log.specs.declared.state.Place.{Place}
-use Rattle.vs_log.specs.declared.state.Place.TheVariants.{Front, Between, Named, Inside}
+use Rattle.vs_log.specs.declared.state.Place.TheVariants.{Front}
 use Rattle.vs_log.specs.declared.state.State.{State}
 use Rattle.vs_log.specs.Events.{Event, time_of, length_of, body_of, sort_of, limit}
 use Rattle.vs_log.specs.Table.{Rules, single_work, size, sum_with, bytes_with, ended, with_base, named, step}
 use Rattle.vs_log.specs.Meaning.{front}
-use Rattle.vs_log.specs.Productions.{counts, is_counted, total, in_turn, is_nil, is_first, IsBase, IsMiddle, IsWork, IsGtid, Says, IsUnended, IsSingle, IsTransaction, IsEntry, IsNew, IsNamed, Ends, AreEntries, IsLog, IsBegun, Stands, Begins}
+use Rattle.vs_log.specs.Productions.{counts, is_counted, total, in_turn, is_nil, is_first, IsBase, IsMiddle, IsWork, IsGtid, Says, IsUnended, IsEntry, IsNew, IsNamed, Ends, AreEntries, IsLog, IsBegun, Stands, Begins}
 use Rattle.vs_log.proofs.Moves.{Moves, inside, step_moves}
 use Rattle.vs_log.proofs.Moves.Moves.{formatted, passed_between, passed_named, passed_inside, based, names, singles, begins, saves, maps_on, tells, ends}
 use Rattle.vs_log.proofs.Shapes.{all_more, total-append, in_turn-more, entries_more, left_nil, right_nil, no_entries, nil_from, is_nil-more, filter_more, filter_same, middle_more, work_more}

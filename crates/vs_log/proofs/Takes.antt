@@ -1,8 +1,8 @@
 -- Each positive line of the table is a step, and steps make a walk.
-use Rattle.std.proofs.Common.{◌≡◌, ◌≤◌, ◌+◌, ℕ, Bool, true, false, List, [], ◌∷◌, ◌++◌, length, nat_lt, if◌then◌else◌, Option, Some, None, Result, Ok, Err, refl, ap, sym, subst, ◌∙◌, arith}
+use Rattle.std.proofs.Common.{◌≡◌, ◌≤◌, ◌+◌, ℕ, Bool, true, false, List, [], ◌∷◌, ◌++◌, length, nat_lt, if◌then◌else◌, Some, None, Result, Ok, Err, refl, ap, sym, subst, ◌∙◌, arith}
 use Rattle.std.specs.Prelude.{◌⊎◌}
 use Rattle.std.specs.List.{filter, AllByRecursion}
-use Rattle.std.proofs.lemmas.Bool.{le-ltb, cases_Bool}
+use Rattle.std.proofs.lemmas.Bool.{le-ltb}
 use Rattle.vs_base.specs.declared.Gtid.{Gtid}
 use Rattle.vs_base.specs.declared.Why.{Why}
 use Rattle.vs_base.specs.declared.Why.TheVariants.{BadEvent, RepeatedGtid, TooLarge, TooManyIntervals}
@@ -10,15 +10,15 @@ use Rattle.vs_gtid.specs.declared.Work.{Work}
 use Rattle.vs_gtid.specs.Positions.{Position, has}
 use Rattle.vs_gtid.specs.Joins.{added}
 use Rattle.vs_log.specs.declared.event.Sort.{Sort}
-use Rattle.vs_log.specs.declared.event.Sort.TheVariants.{AnonymousEvent, PassedOver, FormatEvent, PreviousEvent, GtidEvent, QueryEvent, XidEvent, MapEvent, RowsEvent, ForeignEvent}
+use Rattle.vs_log.specs.declared.event.Sort.TheVariants.{PassedOver}
 use Rattle.vs_log.specs.declared.state.Statement.{Statement}
 use Rattle.vs_log.specs.declared.state.Statement.TheVariants.{Begin, Commit, Savepoint, Xa, Single}
 use Rattle.vs_log.specs.declared.state.Place.{Place}
 use Rattle.vs_log.specs.declared.state.Place.TheVariants.{Front, Between, Named, Inside}
 use Rattle.vs_log.specs.declared.state.State.{State}
-use Rattle.vs_log.specs.Events.{Event, kind_of, length_of, body_of, sort_of, limit}
+use Rattle.vs_log.specs.Events.{Event, length_of, body_of, sort_of, limit}
 use Rattle.vs_log.specs.Table.{Rules, ◌>>=◌, unless, gtid_in, single_work, more_work, size, sum_with, bytes_with, ended, with_base, new_gtid, named, first_query, later_query, told, line, step}
-use Rattle.vs_log.specs.Productions.{counts, is_counted, IsGtid, Says, IsNew}
+use Rattle.vs_log.specs.Productions.{counts, is_counted, IsNew}
 use Rattle.vs_log.proofs.Moves.{Moves, chained, step_moves}
 use Rattle.vs_log.proofs.Moves.Moves.{formatted, passed_between, passed_named, passed_inside, based, names, singles, begins, saves, maps_on, tells, ends}
 

@@ -5,7 +5,9 @@
 mod event;
 mod laws;
 mod state;
+#[cfg(test)]
+mod tests;
 
 pub use event::Sort;
-pub use laws::law_distinct;
+pub use laws::{law_beginnings, law_distinct, law_growth, law_longest, law_meaning};
 pub use state::{Counted, Place, State, Statement};
