@@ -9,7 +9,7 @@ use Rattle.vs_gtid.specs.Logs.{Log}
 use Rattle.vs_log.specs.declared.state.Statement.{Statement}
 use Rattle.vs_log.specs.declared.state.Statement.TheVariants.{Begin, Commit, Savepoint, Xa, Single}
 use Rattle.vs_log.specs.declared.state.Place.{Place}
-use Rattle.vs_log.specs.declared.state.Place.TheVariants.{Front, Between, Named}
+use Rattle.vs_log.specs.declared.state.Place.TheVariants as place
 use Rattle.vs_log.specs.declared.state.State.{State}
 use Rattle.vs_log.specs.Events.{Event, body_of, length_of, is_held, last_place}
 use Rattle.vs_log.specs.Table.{Rules, step, with_base, new_gtid, named, ended, ◌>>=◌}
@@ -20,7 +20,7 @@ use Rattle.vs_entries.specs.declared.log.LogFault.{LogFault}
 use Rattle.vs_entries.specs.declared.log.LogRead.{LogRead}
 use Rattle.vs_entries.specs.declared.reader.Reader.{Reader}
 use Rattle.vs_entries.specs.declared.reader.Standing.{Standing}
-use Rattle.vs_entries.specs.declared.reader.Standing.TheVariants.{AtFront, Apart, InEntry}
+use Rattle.vs_entries.specs.declared.reader.Standing.TheVariants.{Front, Between, Named}
 use Rattle.vs_entries.specs.declared.reader.Turn.{Turn}
 use Rattle.vs_entries.specs.declared.reader.Turn.TheVariants.{Went, Ended}
 use Rattle.vs_entries.specs.declared.refusal.Refusal.{Refusal}
@@ -41,9 +41,9 @@ Answers (Err (Wrong why)) meant = meant ≡ Err why
 Answers (Err Memory) meant = Unit {0}
 
 abbrev pub place_of : Standing → Place
-place_of AtFront = Front
-place_of (Apart first) = Between first
-place_of (InEntry gtid bytes) = Named gtid bytes
+place_of Front = place.Front
+place_of (Between first) = place.Between first
+place_of (Named gtid bytes) = place.Named gtid bytes
 
 -- where the reader stands, as a state of the table
 abbrev pub state_of : Reader → State

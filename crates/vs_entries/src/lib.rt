@@ -10,6 +10,8 @@ mod log;
 mod query;
 mod reader;
 mod refusal;
+#[cfg(test)]
+mod tests;
 mod word;
 
 pub use log::{LogFault, LogRead, read_log};
