@@ -1,5 +1,5 @@
 -- How a reader stands for a state of a log's table, and what its answers say of the log's meaning.
-use Rattle.std.specs.Prelude.{◌≡◌, ◌≤◌, ◌<◌, ◌+◌, ℕ, if◌then◌else◌, List, length, take, drop, Option, Some, None, Result, Ok, Err}
+use Rattle.std.specs.Prelude.{◌≡◌, ◌≤◌, ◌<◌, ◌+◌, ℕ, true, if◌then◌else◌, List, length, take, drop, Option, Some, None, Result, Ok, Err}
 use Rattle.vs_base.specs.declared.Gtid.{Gtid}
 use Rattle.vs_base.specs.declared.Why.{Why}
 use Rattle.vs_base.specs.declared.Why.TheVariants.{NotBuilt, UnsupportedStatement}
@@ -75,6 +75,15 @@ with_gtid s e = new_gtid s.known (body_of e) >>= λ g. Ok (named s e g)
 -- the log with the entry of this GTID, which a query ends
 abbrev pub with_query : List ℕ → State → Event → Gtid → Result State Why
 with_query keyspace s e g = single_of (statement_of keyspace (body_of e)) >>= λ work. Ok (ended s e g work)
+
+-- the event stands whole at the front of the rest, which begins at this place
+pub record IsFrontEvent (at : ℕ) (rest e : List ℕ) : Type 0 where
+  pub held : is_held at rest ≡ true
+  pub bytes : e ≡ take (length_of rest) rest
+  pub size : length e ≡ length_of rest
+  pub head : 19 ≤ length e
+  pub within : length e ≤ length rest
+  pub early : at + length e ≤ last_place
 
 -- what the event at the front of the rest makes of a log that stands so; or that there is none, and what is wrong
 abbrev pub next_state : Rules → ℕ → State → List ℕ → Result State (Option Why)

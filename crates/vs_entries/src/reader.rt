@@ -1,7 +1,8 @@
-ghost use Rattle.std.specs.Prelude.{◌≡◌, ◌≤◌, ◌+◌, [], IfOk, MatchOption, false, length, take, true};
-ghost use Rattle.vs_log.specs.Events.{is_held, last_place, length_of, sort_of};
+ghost use Rattle.std.specs.Prelude.{◌≡◌, ◌≤◌, [], IfOk, MatchOption, false, length};
+ghost use Rattle.vs_log.specs.Events.{is_held, last_place, sort_of};
 ghost use Rattle.vs_log.specs.Meaning.{front, head_refusal, log_of};
 ghost use Rattle.vs_log.specs.Table.{bytes_with, line, size, step};
+ghost use Rattle.vs_entries.specs.Reading.{IsFrontEvent};
 
 use crate::body::{format_fault, read_block, read_gtid};
 use crate::event::{HEAD, kind, sort_in, time, total_length};
@@ -103,22 +104,22 @@ impl Standing {
 #[tactic(auto, unfolding(vs_log::specs::Events::is_held))]
 fn front_event(rest: &[u8], at: usize) -> Option<&[u8]>
     requires { at ≤ last_place }
-    ensures { MatchOption result (is_held at rest.now ≡ false) (λ e. (is_held at rest.now ≡ true) × (e.now ≡ take (length_of rest.now) rest.now) × (length e.now ≡ length_of rest.now) × (19 ≤ length e.now) × (length e.now ≤ length rest.now) × (at + length e.now ≤ last_place)) }
+    ensures { MatchOption result (is_held at rest.now ≡ false) (λ e. IsFrontEvent at rest.now e.now) }
 {
     if rest.len() < HEAD {
         return None;
     }
-    let length = total_length(rest);
-    if length < 19 {
+    let length = total_length(rest) as usize;
+    if length < HEAD {
         return None;
     }
-    if length as usize > rest.len() {
+    if length > rest.len() {
         return None;
     }
     if at as u64 + length as u64 > LAST_PLACE {
         return None;
     }
-    Some(&rest[..length as usize])
+    Some(&rest[..length])
 }
 
 impl Reader {
