@@ -1,5 +1,5 @@
 -- How a reader stands for a state of a log's table, and what its answers say of the log's meaning.
-use Rattle.std.specs.Prelude.{◌≡◌, ◌≤◌, ◌<◌, ◌+◌, ℕ, if◌then◌else◌, List, length, take, drop, Option, Some, None, Result, Ok, Err}
+use Rattle.std.specs.Prelude.{◌≡◌, ◌≤◌, ◌<◌, ◌+◌, ℕ, true, if◌then◌else◌, List, length, take, drop, Option, Some, None, Result, Ok, Err}
 use Rattle.vs_base.specs.declared.Gtid.{Gtid}
 use Rattle.vs_base.specs.declared.Why.{Why}
 use Rattle.vs_base.specs.declared.Why.TheVariants.{NotBuilt, UnsupportedStatement}
@@ -9,7 +9,7 @@ use Rattle.vs_gtid.specs.Logs.{Log}
 use Rattle.vs_log.specs.declared.state.Statement.{Statement}
 use Rattle.vs_log.specs.declared.state.Statement.TheVariants.{Begin, Commit, Savepoint, Xa, Single}
 use Rattle.vs_log.specs.declared.state.Place.{Place}
-use Rattle.vs_log.specs.declared.state.Place.TheVariants.{Front, Between, Named}
+use Rattle.vs_log.specs.declared.state.Place.TheVariants as place
 use Rattle.vs_log.specs.declared.state.State.{State}
 use Rattle.vs_log.specs.Events.{Event, body_of, length_of, is_held, last_place}
 use Rattle.vs_log.specs.Table.{Rules, step, with_base, new_gtid, named, ended, ◌>>=◌}
@@ -20,7 +20,7 @@ use Rattle.vs_entries.specs.declared.log.LogFault.{LogFault}
 use Rattle.vs_entries.specs.declared.log.LogRead.{LogRead}
 use Rattle.vs_entries.specs.declared.reader.Reader.{Reader}
 use Rattle.vs_entries.specs.declared.reader.Standing.{Standing}
-use Rattle.vs_entries.specs.declared.reader.Standing.TheVariants.{AtFront, Apart, InEntry}
+use Rattle.vs_entries.specs.declared.reader.Standing.TheVariants.{Front, Between, Named}
 use Rattle.vs_entries.specs.declared.reader.Turn.{Turn}
 use Rattle.vs_entries.specs.declared.reader.Turn.TheVariants.{Went, Ended}
 use Rattle.vs_entries.specs.declared.refusal.Refusal.{Refusal}
@@ -41,9 +41,9 @@ Answers (Err (Wrong why)) meant = meant ≡ Err why
 Answers (Err Memory) meant = Unit {0}
 
 abbrev pub place_of : Standing → Place
-place_of AtFront = Front
-place_of (Apart first) = Between first
-place_of (InEntry gtid bytes) = Named gtid bytes
+place_of Front = place.Front
+place_of (Between first) = place.Between first
+place_of (Named gtid bytes) = place.Named gtid bytes
 
 -- where the reader stands, as a state of the table
 abbrev pub state_of : Reader → State
@@ -75,6 +75,15 @@ with_gtid s e = new_gtid s.known (body_of e) >>= λ g. Ok (named s e g)
 -- the log with the entry of this GTID, which a query ends
 abbrev pub with_query : List ℕ → State → Event → Gtid → Result State Why
 with_query keyspace s e g = single_of (statement_of keyspace (body_of e)) >>= λ work. Ok (ended s e g work)
+
+-- the event stands whole at the front of the rest, which begins at this place
+pub record IsFrontEvent (at : ℕ) (rest e : List ℕ) : Type 0 where
+  pub held : is_held at rest ≡ true
+  pub bytes : e ≡ take (length_of rest) rest
+  pub size : length e ≡ length_of rest
+  pub head : 19 ≤ length e
+  pub within : length e ≤ length rest
+  pub early : at + length e ≤ last_place
 
 -- what the event at the front of the rest makes of a log that stands so; or that there is none, and what is wrong
 abbrev pub next_state : Rules → ℕ → State → List ℕ → Result State (Option Why)

@@ -11,6 +11,8 @@ mod log;
 mod query;
 mod reader;
 mod refusal;
+#[cfg(test)]
+mod tests;
 mod word;
 
 pub use laws::law_statements;

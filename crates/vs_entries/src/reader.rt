@@ -1,7 +1,8 @@
-ghost use Rattle.std.specs.Prelude.{◌≡◌, ◌≤◌, ◌+◌, [], IfOk, MatchOption, false, length, take, true};
-ghost use Rattle.vs_log.specs.Events.{is_held, last_place, length_of, sort_of};
+ghost use Rattle.std.specs.Prelude.{◌≡◌, ◌≤◌, [], IfOk, MatchOption, false, length};
+ghost use Rattle.vs_log.specs.Events.{is_held, last_place, sort_of};
 ghost use Rattle.vs_log.specs.Meaning.{front, head_refusal, log_of};
 ghost use Rattle.vs_log.specs.Table.{bytes_with, line, size, step};
+ghost use Rattle.vs_entries.specs.Reading.{IsFrontEvent};
 
 use crate::body::{format_fault, read_block, read_gtid};
 use crate::event::{HEAD, kind, sort_in, time, total_length};
@@ -23,11 +24,11 @@ const LAST_PLACE: u64 = 4_611_686_018_427_387_904;
 #[derive(Debug, Clone, Copy)]
 pub enum Standing {
     /// before the format description
-    AtFront,
+    Front,
     /// behind the format description or an entry; whether no event stood since the former
-    Apart { first: bool },
+    Between { first: bool },
     /// behind the GTID event of an entry, of so many bytes
-    InEntry { gtid: Gtid, bytes: u32 },
+    Named { gtid: Gtid, bytes: u32 },
 }
 
 /// What a reader has of a log's events so far.
@@ -55,9 +56,9 @@ impl Standing {
         ensures { result ≡ size (place_of self.now) }
     {
         match self {
-            Standing::AtFront => 0,
-            Standing::Apart { .. } => 0,
-            Standing::InEntry { bytes, .. } => *bytes,
+            Standing::Front => 0,
+            Standing::Between { .. } => 0,
+            Standing::Named { bytes, .. } => *bytes,
         }
     }
 
@@ -103,22 +104,22 @@ impl Standing {
 #[tactic(auto, unfolding(vs_log::specs::Events::is_held))]
 fn front_event(rest: &[u8], at: usize) -> Option<&[u8]>
     requires { at ≤ last_place }
-    ensures { MatchOption result (is_held at rest.now ≡ false) (λ e. (is_held at rest.now ≡ true) × (e.now ≡ take (length_of rest.now) rest.now) × (length e.now ≡ length_of rest.now) × (19 ≤ length e.now) × (length e.now ≤ length rest.now) × (at + length e.now ≤ last_place)) }
+    ensures { MatchOption result (is_held at rest.now ≡ false) (λ e. IsFrontEvent at rest.now e.now) }
 {
     if rest.len() < HEAD {
         return None;
     }
-    let length = total_length(rest);
-    if length < 19 {
+    let length = total_length(rest) as usize;
+    if length < HEAD {
         return None;
     }
-    if length as usize > rest.len() {
+    if length > rest.len() {
         return None;
     }
     if at as u64 + length as u64 > LAST_PLACE {
         return None;
     }
-    Some(&rest[..length as usize])
+    Some(&rest[..length])
 }
 
 impl Reader {
@@ -133,7 +134,7 @@ impl Reader {
             base: GtidSet::new(alloc),
             entries: List::new(alloc),
             known: GtidSet::new(alloc),
-            standing: Standing::AtFront,
+            standing: Standing::Front,
         }
     }
 
@@ -190,11 +191,9 @@ impl Reader {
             return Err(Refusal::Wrong(Why::TooLarge { bytes }));
         }
         match self.standing {
-            Standing::AtFront => self.take_first(event),
-            Standing::Apart { first } => self.take_apart(alloc, event, first),
-            Standing::InEntry { gtid, bytes } => self.take_in_entry(
-                alloc, event, keyspace, gtid, bytes,
-            ),
+            Standing::Front => self.take_first(event),
+            Standing::Between { first } => self.take_between(alloc, event, first),
+            Standing::Named { gtid, bytes } => self.take_named(alloc, event, keyspace, gtid, bytes),
         }
     }
 
@@ -208,7 +207,7 @@ impl Reader {
             Sort::FormatEvent => match format_fault(&event[HEAD..]) {
                 Some(why) => Err(Refusal::Wrong(why)),
                 None => {
-                    self.standing = Standing::Apart { first: true };
+                    self.standing = Standing::Between { first: true };
                     Ok(())
                 }
             },
@@ -217,7 +216,7 @@ impl Reader {
     }
 
     /// Takes an event between entries.
-    fn take_apart(&mut self, alloc: Global, event: &[u8], first: bool) -> Result<(), Refusal>
+    fn take_between(&mut self, alloc: Global, event: &[u8], first: bool) -> Result<(), Refusal>
         requires { 19 ≤ length event.now }
         ensures { Takes result self.old self.new (line (rules_of []) (state_of self.old) event.now (Between first) (sort_of event.now)) }
     {
@@ -232,7 +231,7 @@ impl Reader {
     }
 
     /// Takes an event behind the GTID event of an entry.
-    fn take_in_entry(
+    fn take_named(
         &mut self,
         alloc: Global,
         event: &[u8],
@@ -262,7 +261,7 @@ impl Reader {
         let known = base.copy(alloc)?;
         self.base = base;
         self.known = known;
-        self.standing = Standing::Apart { first: false };
+        self.standing = Standing::Between { first: false };
         Ok(())
     }
 
@@ -281,7 +280,7 @@ impl Reader {
         }
         match self.known.add(gtid) {
             Ok(()) => {
-                self.standing = Standing::InEntry {
+                self.standing = Standing::Named {
                     gtid,
                     bytes: total_length(event),
                 };
@@ -310,7 +309,7 @@ impl Reader {
             time: time(event),
             work,
         })?;
-        self.standing = Standing::Apart { first: false };
+        self.standing = Standing::Between { first: false };
         Ok(())
     }
 }
