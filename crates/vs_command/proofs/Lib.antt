@@ -1,3 +1,4 @@
 pub mod SendLemmas
 pub mod LegalLemmas
 pub mod AnswerLemmas
+pub mod StreamLemmas

@@ -1,7 +1,7 @@
 -- The line that asks for a stream: `keyspace/shard MySQL56/`, ended by a line feed or by the end of the input.
-use Rattle.std.specs.Prelude.{◌≡◌, ℕ, List, [], ◌∷◌, ◌++◌, codes}
+use Rattle.std.specs.Prelude.{◌≡◌, ℕ, List, [], ◌∷◌, ◌++◌, codes, IsTrue}
 use Rattle.vs_base.specs.declared.ShardName.{ShardName}
-use Rattle.vs_outside.specs.Names.{IsKeyspaceText, IsShardText}
+use Rattle.vs_outside.specs.Names.{is_keyspace_text, is_shard_text}
 
 -- a line ends there
 abbrev pub EndsLine : List ℕ → Type 0
@@ -13,5 +13,5 @@ pub record Asks (input : List ℕ) (name : ShardName) : Type 0 where
   pub rest : List ℕ
   pub is : input ≡ name.keyspace ++ codes "/" ++ name.shard ++ codes " MySQL56/" ++ rest
   pub ends : EndsLine rest
-  pub keyspace : IsKeyspaceText name.keyspace
-  pub shard : IsShardText name.shard
+  pub keyspace : IsTrue (is_keyspace_text name.keyspace)
+  pub shard : IsTrue (is_shard_text name.shard)

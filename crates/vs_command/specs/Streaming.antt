@@ -4,6 +4,7 @@ use Rattle.std.specs.declared.cmp.Ordering.TheVariants.{Equal}
 use Rattle.vs_base.specs.declared.ShardName.{ShardName}
 use Rattle.vs_gtid.specs.declared.Entry.{Entry}
 use Rattle.vs_gtid.specs.Logs.{Log}
+use Rattle.vs_gtid.specs.Missing.{IsFirstMissing}
 use Rattle.vs_gtid.specs.Positions.{Position, IsSubset}
 use Rattle.vs_outside.specs.Clusters.{ClusterBytes}
 use Rattle.vs_outside.specs.Told.{IsPrefixOf}
@@ -17,9 +18,9 @@ use Rattle.vs_model.specs.Legal.{Legal}
 use Rattle.vs_model.specs.Reached.{IsSettled}
 use Rattle.vs_model.specs.Requests.{First, OneShard, From}
 use Rattle.vs_command.specs.declared.status.Status.{Status}
-use Rattle.vs_command.specs.declared.status.Status.TheVariants.{Done, LinkFault}
+use Rattle.vs_command.specs.declared.status.Status.TheVariants.{Done, Memory, Usage, Request, UnknownShard, Purged, BadLog, FeedFault, LinkFault, InputFault, OpenFault, PositionTooLarge}
 use Rattle.vs_command.specs.Line.{Asks}
-use Rattle.vs_command.specs.Sending.{AreSpelled, IsCanonicalAlong}
+use Rattle.vs_command.specs.Sending.{AreSpelled, IsCanonicalAlong, IsTooLargeBehind}
 use Rattle.vs_command.specs.Spelling.{frames_bytes}
 
 -- what the bytes of a shard's log mean, under its keyspace
@@ -65,6 +66,21 @@ pub record IsStreamed (s : ShardName) (log : Log) (status : Status) (written : L
   pub whole : status ≢ LinkFault → written ≡ bytes
   pub base : (sent ≡ []) ⊎ IsSubset log.base []
   pub finished : status ≡ Done → (rest ≡ []) × IsSubset log.base [] × (log.fault ≡ None)
+
+-- What an answer about the log of a shard says of it; the other answers are none about a log.
+abbrev pub HasLogCause : ShardName → Log → Status → Type 0
+HasLogCause s log (Purged name missing) = (name ≡ s) × IsFirstMissing log.base [] missing
+HasLogCause s log (BadLog name offset why) = (name ≡ s) × (log.fault ≡ Some (offset, why))
+HasLogCause s log (PositionTooLarge name) = (name ≡ s) × IsTooLargeBehind [] log.entries
+HasLogCause s log Done = Unit {0}
+HasLogCause s log Memory = Unit {0}
+HasLogCause s log LinkFault = Unit {0}
+HasLogCause s log Usage = ⊥
+HasLogCause s log (Request fault) = ⊥
+HasLogCause s log (UnknownShard name) = ⊥
+HasLogCause s log (FeedFault name) = ⊥
+HasLogCause s log InputFault = ⊥
+HasLogCause s log (OpenFault name) = ⊥
 
 -- The headline: what is written answers the line at the front of the input, or nothing is written and the stream isn't done.
 pub data Headline (cluster : ClusterBytes) (input : List ℕ) (status : Status) (written : List ℕ) : Type 0 where

@@ -4,5 +4,6 @@
 mod frame;
 mod sending;
 mod status;
+mod streaming;
 
 fn main() {}
