@@ -2,3 +2,4 @@ pub mod SendLemmas
 pub mod LegalLemmas
 pub mod AnswerLemmas
 pub mod StreamLemmas
+pub mod FetchLemmas

@@ -1,7 +1,9 @@
 //! The program `vstreamd`: the change stream of a shard, on standard output.
 #![tactic(auto)]
 
+mod fetch;
 mod frame;
+mod line;
 mod sending;
 mod status;
 mod streaming;

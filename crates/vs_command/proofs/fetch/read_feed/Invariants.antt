@@ -1,0 +1,13 @@
+use Rattle.std.proofs.Common.{◌≡◌, ◌≤◌, Some}
+use Rattle.std.specs.Prelude.{IfSome}
+use Rattle.vs_command.proofs.fetch.read_feed.Given as goal
+
+-- what was read is what the feed gave
+abbrev pub invariant-loop : goal.invariant-loop
+invariant-loop g l = record {
+  given : IfSome (g.F.Feed.all l.fn.feed) (λ _. g.F.Feed.given l.feed ≡ Some l.out.items);
+  all : g.F.Feed.all l.feed ≡ g.F.Feed.all l.fn.feed;
+  origin : g.F.Feed.origin l.feed ≡ g.F.Feed.origin l.fn.feed;
+  sound : g.F.Feed.sound l.feed ≡ g.F.Feed.sound l.fn.feed;
+  later : g.F.Feed.faults l.fn.feed ≤ g.F.Feed.faults l.feed;
+}

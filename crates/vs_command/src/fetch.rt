@@ -1,0 +1,83 @@
+ghost use Rattle.std.specs.Prelude.{◌≡◌, ◌≤◌, [], Some, None, Err, IfOk, IfSome, MatchOption};
+ghost use Rattle.vs_outside.specs.Clusters.{Shard, find_shard};
+ghost use Rattle.vs_outside.specs.Counts.{Rose};
+
+use std::alloc::Global;
+use std::sync::Wait;
+use vs_base::ShardName;
+use vs_outside::{AskEnd, Failed, Feed, Got, Opened, Tablets};
+
+/// Why a feed was not read to its end.
+#[derive(Debug, Clone, Copy, PartialEq, Eq)]
+pub enum FeedEnd {
+    Failed,
+    Memory,
+}
+
+/// Why a shard's log was not fetched.
+#[derive(Debug, Clone, Copy, PartialEq, Eq)]
+pub enum FetchEnd {
+    Memory,
+    /// The log could not be opened.
+    OpenFault,
+    /// A read of the log failed.
+    FeedFault,
+}
+
+/// How many bytes a read asks for.
+const READ_SIZE: usize = 65536;
+
+/// Reads a feed from its front to its end, again and again while it has nothing yet.
+fn read_feed<R: Wait, F: Feed>(rt: &R, alloc: Global, feed: &mut F) -> Result<Vec<u8>, FeedEnd>
+    requires { IfSome (F.all feed.old) (λ _. F.given feed.old ≡ Some []) }
+    ensures whole { IfOk result (λ v. IfSome (F.all feed.old) (λ all. v.items ≡ all)) }
+    ensures origin { F.origin feed.new ≡ F.origin feed.old }
+    ensures sound { F.sound feed.new ≡ F.sound feed.old }
+    ensures later { F.faults feed.old ≤ F.faults feed.new }
+    ensures failed { result ≡ Err FeedEnd.Failed → Rose (F.faults feed.old) (F.faults feed.new) }
+{
+    let mut buf = [0u8; READ_SIZE];
+    let mut out = Vec::new(alloc);
+    for _ in rt.forever() {
+        match feed.read(&mut buf) {
+            Ok(Got::Bytes(n)) => {
+                if out.extend_from_slice(&buf[..n]).is_err() {
+                    return Err(FeedEnd::Memory);
+                }
+            }
+            Ok(Got::NotYet) => {}
+            Ok(Got::End) => return Ok(out),
+            Err(Failed) => return Err(FeedEnd::Failed),
+        }
+    }
+    unreachable!()
+}
+
+/// The log of a shard, whole; or none where the cluster lacks the shard. The feed is given back.
+pub fn fetch_log<R: Wait, T: Tablets>(
+    rt: &R,
+    alloc: Global,
+    tablets: &mut T,
+    name: &ShardName,
+) -> Result<Option<Vec<u8>>, FetchEnd>
+    ensures log { IfOk result (λ o. IfSome (T.cluster tablets.old) (λ c. MatchOption o (find_shard c name.now ≡ None) (λ v. (s : Shard) × (find_shard c name.now ≡ Some s) × (v.items ≡ s.log)))) }
+    ensures cluster { T.cluster tablets.new ≡ T.cluster tablets.old }
+    ensures open_failed { result ≡ Err FetchEnd.OpenFault → Rose (T.open_faults tablets.old name.now) (T.open_faults tablets.new name.now) }
+    ensures feed_failed { result ≡ Err FetchEnd.FeedFault → Rose (T.faults tablets.old name.now) (T.faults tablets.new name.now) }
+{
+    let opened = match tablets.open_log(alloc, name) {
+        Ok(Some(opened)) => opened,
+        Ok(None) => return Ok(None),
+        Err(AskEnd::Failed) => return Err(FetchEnd::OpenFault),
+        Err(AskEnd::Memory) => return Err(FetchEnd::Memory),
+    };
+    let Opened { mut feed, schema } = opened;
+    drop(schema);
+    let read = read_feed(rt, alloc, &mut feed);
+    tablets.give_back(name, feed);
+    match read {
+        Ok(log) => Ok(Some(log)),
+        Err(FeedEnd::Memory) => Err(FetchEnd::Memory),
+        Err(FeedEnd::Failed) => Err(FetchEnd::FeedFault),
+    }
+}
