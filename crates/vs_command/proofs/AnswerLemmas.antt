@@ -1,6 +1,6 @@
 -- What was written of a shard's log answers the line that asks for the shard.
 use Rattle.std.proofs.Common.{◌≡◌, ◌≢◌, ℕ, Bool, true, false, List, [], ◌∷◌, ◌++◌, Option, Some, None, IsTrue, if◌then◌else◌, refl, sym, ap, subst, ◌∙◌, append-nil}
-use Rattle.std.specs.Prelude.{◌⊎◌}
+use Rattle.std.specs.Prelude.{◌⊎◌, IfSome}
 use Rattle.vs_base.specs.declared.ShardName.{ShardName}
 use Rattle.vs_base.specs.declared.Gtid.{Gtid}
 use Rattle.vs_base.specs.Names.{same_name}
@@ -9,7 +9,9 @@ use Rattle.vs_gtid.specs.declared.Entry.{Entry}
 use Rattle.vs_gtid.specs.Positions.{Position, has, IsSubset}
 use Rattle.vs_gtid.specs.Logs.{Log, HaveDistinctGtids}
 use Rattle.vs_outside.specs.Clusters.{Shard, ClusterBytes, find_shard}
-use Rattle.vs_outside.proofs.ToldLemmas.{IsPrefixOf-refl}
+use Rattle.vs_outside.specs.Told.{Writes}
+use Rattle.vs_outside.proofs.ToldLemmas.{IsPrefixOf-refl, Writes-none, Writes-weaken}
+use Rattle.vs_gtid.specs.Missing.{IsFirstMissing}
 use Rattle.vs_log.specs.Table.{Rules}
 use Rattle.vs_log.specs.Laws.{HasNewGtids}
 use Rattle.vs_log.specs.Meaning.{log_meant}
@@ -25,32 +27,13 @@ use Rattle.vs_model.specs.Reached.{IsSettled}
 use Rattle.vs_model.specs.Requests.{First, OneShard, From}
 use Rattle.vs_command.specs.declared.status.Status.{Status}
 use Rattle.vs_command.specs.declared.status.Status.TheVariants.{Done}
-use Rattle.vs_command.specs.Sending.{vector_at, position_after, entry_frames}
-use Rattle.vs_command.specs.Streaming.{Answers, IsFinished, IsStreamed, cluster_meant, shard_log, takes_all}
-use Rattle.vs_command.proofs.LegalLemmas.{LawOfTransactions, LawOfDue, AreStatements, after_all, steps_sent, copies_sent, last_sent, due_all, stop_none}
-
-abbrev pub LawOfStop : Type 0
-LawOfStop = (s : ShardName) (log : Log) (p q : Position) (sent rest : List Entry) → HaveDistinctGtids log.entries →
-    due s log p ≡ sent ++ rest → IsPositionAfter p sent q → stop s log q ≡ stop s log p
-
-abbrev pub LawOfSteps : Type 0
-LawOfSteps = (cluster : Cluster) (rules : Filter) (v0 : Vector) (fs : List Frame) → LogsAreDistinct cluster →
-    AllCopiedFollows fs → Steps cluster rules v0 fs → Legal cluster rules v0 fs
-
-abbrev pub LawOfNewGtids : Type 0
-LawOfNewGtids = (rules : Rules) (bytes : List ℕ) → HasNewGtids (log_meant rules bytes)
-
-abbrev pub LawOfStatements : Type 0
-LawOfStatements = (keyspace bytes : List ℕ) → AreStatements (log_meant (rules_of keyspace) bytes).entries
-
--- the laws of the crates below, as their functions ensure them
-pub record Laws : Type 0 where
-  pub transactions : LawOfTransactions
-  pub due : LawOfDue
-  pub stop : LawOfStop
-  pub steps : LawOfSteps
-  pub new_gtids : LawOfNewGtids
-  pub statements : LawOfStatements
+use Rattle.vs_command.specs.declared.status.Status.TheVariants as statuses
+use Rattle.vs_command.specs.Sending.{IsTooLargeBehind, vector_at, position_after, entry_frames}
+use Rattle.vs_command.specs.Laws.{AreStatements, LawOfNewGtids, Laws}
+use Rattle.vs_command.specs.Line.{Asks}
+use Rattle.vs_command.specs.Streaming.Headline.{answers}
+use Rattle.vs_command.specs.Streaming.{Answers, Headline, HasCause, HasLogCause, IsFinished, IsStreamed, cluster_meant, shard_log, takes_all}
+use Rattle.vs_command.proofs.LegalLemmas.{after_all, steps_sent, copies_sent, last_sent, due_all, stop_none}
 
 -- the log of a shard of the cluster is what its bytes mean
 log_of-meant : (cluster : ClusterBytes) (s : ShardName) (shard : Shard) → find_shard cluster s ≡ Some shard → log_of (cluster_meant cluster) s ≡ shard_log s shard.log
@@ -109,9 +92,24 @@ finished_at laws cluster s distinct statements sent are base fault =
         (subst (λ u. IsSubset (log_of cluster u).base p) it.0 (λ g within. absurd (none_in g (base g within))), subst (λ u. (log_of cluster u).fault ≡ None) it.0 fault);
     }
 
+-- what an answer says of a log, it says of the shard's log
+caused : (cluster : ClusterBytes) (s : ShardName) (log : Log) (status : Status) → log_of (cluster_meant cluster) s ≡ log → HasLogCause s log status → HasCause cluster s status
+caused cluster s log (statuses.Purged name missing) is cause = (cause.0, subst (λ (l : Log). IsFirstMissing l.base [] missing) (sym is) cause.1)
+caused cluster s log (statuses.BadLog name offset why) is cause = (cause.0, ap (λ (l : Log). l.fault) is ∙ cause.1)
+caused cluster s log (statuses.PositionTooLarge name) is cause = (cause.0, subst (λ (l : Log). IsTooLargeBehind [] l.entries) (sym is) cause.1)
+caused cluster s log statuses.Done is cause = tt
+caused cluster s log statuses.Memory is cause = tt
+caused cluster s log statuses.LinkFault is cause = tt
+caused cluster s log statuses.Usage is cause = absurd cause
+caused cluster s log (statuses.Request fault) is cause = absurd cause
+caused cluster s log (statuses.UnknownShard name) is cause = absurd cause
+caused cluster s log (statuses.FeedFault name) is cause = absurd cause
+caused cluster s log statuses.InputFault is cause = absurd cause
+caused cluster s log (statuses.OpenFault name) is cause = absurd cause
+
 pub Answers-streamed : Laws → (cluster : ClusterBytes) (s : ShardName) (shard : Shard) (status : Status) (written : List ℕ) → find_shard cluster s ≡ Some shard →
-    IsStreamed s (shard_log s shard.log) status written → Answers cluster s status written
-Answers-streamed laws cluster s shard status written found streamed =
+    IsStreamed s (shard_log s shard.log) status written → HasLogCause s (shard_log s shard.log) status → Answers cluster s status written
+Answers-streamed laws cluster s shard status written found streamed cause =
     let meant : log_of (cluster_meant cluster) s ≡ shard_log s shard.log = log_of-meant cluster s shard found in
     let distinct : LogsAreDistinct (cluster_meant cluster) = distinct_meant laws.new_gtids cluster in
     let log : Log = log_of (cluster_meant cluster) s in
@@ -138,12 +136,50 @@ Answers-streamed laws cluster s shard status written found streamed =
         let whole : log.fault ≡ None = ap (λ (l : Log). l.fault) meant ∙ end.2 in
         subst (λ v. IsFinished (cluster_meant cluster) v) (sym (last_sent s [] streamed.sent))
           (finished_at laws (cluster_meant cluster) s distinct statements streamed.sent all within whole);
+      cause = caused cluster s (shard_log s shard.log) status meant cause;
     }
 
 -- nothing was written, and nothing is promised
-pub Answers-none : Laws → (cluster : ClusterBytes) (s : ShardName) (status : Status) → status ≢ Done → Answers cluster s status []
-Answers-none laws cluster s status other = record {
+pub Answers-none : Laws → (cluster : ClusterBytes) (s : ShardName) (status : Status) → status ≢ Done → HasCause cluster s status → Answers cluster s status []
+Answers-none laws cluster s status other cause = record {
   v0 = vector_at s []; frames = []; first = first_of (cluster_meant cluster) s;
   legal = laws.steps (cluster_meant cluster) takes_all (vector_at s []) [] (distinct_meant laws.new_gtids cluster) (copies_sent s [] []) tt; bytes = []; spelled = refl;
-  prefix = IsPrefixOf-refl []; whole = λ _. refl; finished = λ done. absurd (other done);
+  prefix = IsPrefixOf-refl []; whole = λ _. refl; finished = λ done. absurd (other done); cause = cause;
 }
+
+-- where the cluster is told, and the log is the shard's
+pub Writes-streamed : Laws → (told : Option ClusterBytes) (s : ShardName) (status : Status) (bytes : List ℕ) (before now : Option (List ℕ)) →
+    IfSome told (λ c. (shard : Shard) × (find_shard c s ≡ Some shard) × (bytes ≡ shard.log)) →
+    Writes before now (IsStreamed s (shard_log s bytes) status) → HasLogCause s (shard_log s bytes) status → IfSome told (λ c. Writes before now (Answers c s status))
+Writes-streamed laws None s status bytes before now fetched wrote cause = tt
+Writes-streamed laws (Some c) s status bytes before now (shard, found, is) wrote cause =
+    Writes-weaken (IsStreamed s (shard_log s bytes) status) (Answers c s status) before now
+    (λ w streamed. Answers-streamed laws c s shard status w found
+      (subst (λ b. IsStreamed s (shard_log s b) status w) is streamed) (subst (λ b. HasLogCause s (shard_log s b) status) is cause)) wrote
+
+-- where nothing was written
+pub Writes-unanswered : Laws → (told : Option ClusterBytes) (s : ShardName) (status : Status) (sent : Option (List ℕ)) → status ≢ Done →
+    IfSome told (λ c. HasCause c s status) → IfSome told (λ c. Writes sent sent (Answers c s status))
+Writes-unanswered laws None s status sent other cause = tt
+Writes-unanswered laws (Some c) s status sent other cause = Writes-none (Answers c s status) sent (Answers-none laws c s status other cause)
+
+pub told_always : (P : ClusterBytes → Type 0) (told : Option ClusterBytes) → ((c : ClusterBytes) → P c) → IfSome told P
+told_always P None all = tt
+told_always P (Some c) all = all c
+
+pub told_so : (P Q : ClusterBytes → Type 0) (told : Option ClusterBytes) → ((c : ClusterBytes) → P c → Q c) → IfSome told P → IfSome told Q
+told_so P Q None f p = tt
+told_so P Q (Some c) f p = f c p
+
+-- what answers the line that is asked is the headline
+pub headline_answers : (told_before told : Option ClusterBytes) (left : Option (List ℕ)) (name : ShardName) (status : Status) (before now : Option (List ℕ)) →
+    told ≡ told_before → IfSome left (λ input. Asks input name) → IfSome told (λ c. Writes before now (Answers c name status)) →
+    IfSome told_before (λ c. IfSome left (λ input. Writes before now (Headline c input status)))
+headline_answers told_before told left name status before now same asks wrote =
+    told_so (λ c. Writes before now (Answers c name status)) (λ c. IfSome left (λ input. Writes before now (Headline c input status))) told_before
+    (λ c w. each left asks c w) (subst (λ t. IfSome t (λ c. Writes before now (Answers c name status))) same wrote)
+  where
+    each : (left : Option (List ℕ)) → IfSome left (λ input. Asks input name) → (c : ClusterBytes) → Writes before now (Answers c name status) →
+        IfSome left (λ input. Writes before now (Headline c input status))
+    each None asks c w = tt
+    each (Some input) asks c w = Writes-weaken (Answers c name status) (Headline c input status) before now (λ bytes a. answers name asks a) w

@@ -24,19 +24,8 @@ use Rattle.vs_model.specs.Copy.{Filter, picked}
 use Rattle.vs_model.specs.Legal.{AllCopiedFollows, NoParticipantStands}
 use Rattle.vs_model.specs.Steps.{SendsTx, Step, Steps}
 use Rattle.vs_command.specs.Sending.{vector_at, position_after, entry_frames, IsCanonicalAlong}
+use Rattle.vs_command.specs.Laws.{LawOfTransactions, LawOfDue, AreStatements}
 use Rattle.vs_command.specs.Streaming.{takes_all}
-
--- what the laws of a legal stream say, as their functions ensure it
-abbrev pub LawOfTransactions : Type 0
-LawOfTransactions = (cluster : Cluster) (rules : Filter) (v w : Vector) (s : ShardName) (told : Entry) → LogsAreDistinct cluster →
-    SendsTx cluster rules v s told w → Step cluster rules v (Tx s told w)
-
-abbrev pub LawOfDue : Type 0
-LawOfDue = (s : ShardName) (log : Log) (p q : Position) (sent rest : List Entry) → HaveDistinctGtids log.entries →
-    due s log p ≡ sent ++ rest → IsPositionAfter p sent q → due s log q ≡ rest
-
-abbrev pub AreStatements : List Entry → Type 0
-AreStatements es = AllByRecursion (λ (e : Entry). IsStatement e.work) es
 
 -- the position with a GTID is the one after its entry
 after_one : (p : Position) (e : Entry) → IsPositionAfter p (e ∷ []) (added p e.gtid)

@@ -2,3 +2,5 @@ pub mod Spelling
 pub mod Line
 pub mod Sending
 pub mod Streaming
+pub mod Words
+pub mod Laws

@@ -6,7 +6,7 @@ use Rattle.vs_gtid.specs.declared.Entry.{Entry}
 use Rattle.vs_gtid.specs.Logs.{Log}
 use Rattle.vs_gtid.specs.Missing.{IsFirstMissing}
 use Rattle.vs_gtid.specs.Positions.{Position, IsSubset}
-use Rattle.vs_outside.specs.Clusters.{ClusterBytes}
+use Rattle.vs_outside.specs.Clusters.{ClusterBytes, find_shard}
 use Rattle.vs_outside.specs.Told.{IsPrefixOf}
 use Rattle.vs_log.specs.Meaning.{log_meant}
 use Rattle.vs_entries.specs.Rules.{rules_of}
@@ -40,6 +40,36 @@ pub record IsFinished (cluster : Cluster) (v : Vector) : Type 0 where
   pub settled : IsSettled cluster v
   pub readable : (s : ShardName) (p : Position) → Streams v s p → IsSubset (log_of cluster s).base p × ((log_of cluster s).fault ≡ None)
 
+-- What an answer says of the shard that was asked for and of its log; of the other answers nothing is said here.
+abbrev pub HasCause : ClusterBytes → ShardName → Status → Type 0
+HasCause cluster s (UnknownShard name) = (name ≡ s) × (find_shard cluster s ≡ None)
+HasCause cluster s (Purged name missing) = (name ≡ s) × IsFirstMissing (log_of (cluster_meant cluster) s).base [] missing
+HasCause cluster s (BadLog name offset why) = (name ≡ s) × ((log_of (cluster_meant cluster) s).fault ≡ Some (offset, why))
+HasCause cluster s (PositionTooLarge name) = (name ≡ s) × IsTooLargeBehind [] (log_of (cluster_meant cluster) s).entries
+HasCause cluster s (FeedFault name) = name ≡ s
+HasCause cluster s (OpenFault name) = name ≡ s
+HasCause cluster s Done = Unit {0}
+HasCause cluster s Memory = Unit {0}
+HasCause cluster s Usage = Unit {0}
+HasCause cluster s (Request fault) = Unit {0}
+HasCause cluster s LinkFault = Unit {0}
+HasCause cluster s InputFault = Unit {0}
+
+-- the answers of a stream, once its request was read
+abbrev pub IsOfStream : Status → Type 0
+IsOfStream Usage = ⊥
+IsOfStream (Request fault) = ⊥
+IsOfStream InputFault = ⊥
+IsOfStream Done = Unit {0}
+IsOfStream Memory = Unit {0}
+IsOfStream (UnknownShard name) = Unit {0}
+IsOfStream (Purged name missing) = Unit {0}
+IsOfStream (BadLog name offset why) = Unit {0}
+IsOfStream (FeedFault name) = Unit {0}
+IsOfStream LinkFault = Unit {0}
+IsOfStream (OpenFault name) = Unit {0}
+IsOfStream (PositionTooLarge name) = Unit {0}
+
 -- What was written for a shard, from the empty position: the bytes of legal frames, or a beginning of them where the link failed.
 -- Where the stream is done, it is finished.
 pub record Answers (cluster : ClusterBytes) (name : ShardName) (status : Status) (written : List ℕ) : Type 0 where
@@ -52,6 +82,7 @@ pub record Answers (cluster : ClusterBytes) (name : ShardName) (status : Status)
   pub prefix : IsPrefixOf written bytes
   pub whole : status ≢ LinkFault → written ≡ bytes
   pub finished : status ≡ Done → IsFinished (cluster_meant cluster) (last_vector v0 frames)
+  pub cause : HasCause cluster name status
 
 -- What was written of a log, from the empty position: the frames of its first entries, and where the link failed a beginning of them.
 -- Where the stream is done, they are all entries, and the log has no fault.

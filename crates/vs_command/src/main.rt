@@ -4,6 +4,7 @@
 mod fetch;
 mod frame;
 mod line;
+mod run;
 mod sending;
 mod status;
 mod streaming;

@@ -1,0 +1,17 @@
+use Rattle.std.proofs.Common.{◌≡◌, ap, ◌∙◌, sym, refl, subst, ◌≤◌}
+use Rattle.vs_outside.specs.Counts.{Rose}
+use Rattle.vs_command.proofs.AnswerLemmas.{headline_answers}
+use Rattle.vs_command.proofs.run.run.Goals as goal
+
+pub returns-in-Ok-clause-headline : goal.returns-in-Ok-clause-headline
+returns-in-Ok-clause-headline g c =
+    headline_answers (g.T.Tablets.cluster c.args.tablets.now) (g.T.Tablets.cluster c.point.new.self) (g.I.Source.left c.args.input.now) c.in-Ok.name _ _ _
+    c.point.ensures.cluster c.in-Ok.ensures.asks c.stream_shard.ensures.answers
+
+pub returns-in-Ok-clause-feed : goal.returns-in-Ok-clause-feed
+returns-in-Ok-clause-feed g c name is =
+    subst (λ n. Rose n (g.T.Tablets.faults c.stream_shard.new.tablets name)) (c.point.ensures.faults name) (c.stream_shard.ensures.feed name is)
+
+pub returns-in-Ok-clause-opening : goal.returns-in-Ok-clause-opening
+returns-in-Ok-clause-opening g c name is =
+    subst (λ n. Rose n (g.T.Tablets.open_faults c.stream_shard.new.tablets name)) (c.point.ensures.open_faults name) (c.stream_shard.ensures.opening name is)

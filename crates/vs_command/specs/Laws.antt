@@ -1,0 +1,51 @@
+-- The laws of the crates below on which the headline stands, as their functions ensure them.
+use Rattle.std.specs.Prelude.{◌≡◌, ℕ, List, ◌++◌}
+use Rattle.std.specs.List.{AllByRecursion}
+use Rattle.vs_base.specs.declared.ShardName.{ShardName}
+use Rattle.vs_gtid.specs.declared.Entry.{Entry}
+use Rattle.vs_gtid.specs.Positions.{Position}
+use Rattle.vs_gtid.specs.Logs.{Log, HaveDistinctGtids, IsStatement}
+use Rattle.vs_log.specs.Table.{Rules}
+use Rattle.vs_log.specs.Laws.{HasNewGtids}
+use Rattle.vs_log.specs.Meaning.{log_meant}
+use Rattle.vs_entries.specs.Rules.{rules_of}
+use Rattle.vs_model.specs.Logs.{Cluster, LogsAreDistinct, due, stop, IsPositionAfter}
+use Rattle.vs_model.specs.Vectors.{Vector}
+use Rattle.vs_model.specs.Frames.{Frame}
+use Rattle.vs_model.specs.Frames.Frame.{Tx}
+use Rattle.vs_model.specs.Copy.{Filter}
+use Rattle.vs_model.specs.Legal.{AllCopiedFollows, Legal}
+use Rattle.vs_model.specs.Steps.{SendsTx, Step, Steps}
+
+abbrev pub LawOfTransactions : Type 0
+LawOfTransactions = (cluster : Cluster) (rules : Filter) (v w : Vector) (s : ShardName) (told : Entry) → LogsAreDistinct cluster →
+    SendsTx cluster rules v s told w → Step cluster rules v (Tx s told w)
+
+abbrev pub LawOfDue : Type 0
+LawOfDue = (s : ShardName) (log : Log) (p q : Position) (sent rest : List Entry) → HaveDistinctGtids log.entries →
+    due s log p ≡ sent ++ rest → IsPositionAfter p sent q → due s log q ≡ rest
+
+abbrev pub LawOfStop : Type 0
+LawOfStop = (s : ShardName) (log : Log) (p q : Position) (sent rest : List Entry) → HaveDistinctGtids log.entries →
+    due s log p ≡ sent ++ rest → IsPositionAfter p sent q → stop s log q ≡ stop s log p
+
+abbrev pub LawOfSteps : Type 0
+LawOfSteps = (cluster : Cluster) (rules : Filter) (v0 : Vector) (fs : List Frame) → LogsAreDistinct cluster →
+    AllCopiedFollows fs → Steps cluster rules v0 fs → Legal cluster rules v0 fs
+
+abbrev pub LawOfNewGtids : Type 0
+LawOfNewGtids = (rules : Rules) (bytes : List ℕ) → HasNewGtids (log_meant rules bytes)
+
+abbrev pub AreStatements : List Entry → Type 0
+AreStatements es = AllByRecursion (λ (e : Entry). IsStatement e.work) es
+
+abbrev pub LawOfStatements : Type 0
+LawOfStatements = (keyspace bytes : List ℕ) → AreStatements (log_meant (rules_of keyspace) bytes).entries
+
+pub record Laws : Type 0 where
+  pub transactions : LawOfTransactions
+  pub due : LawOfDue
+  pub stop : LawOfStop
+  pub steps : LawOfSteps
+  pub new_gtids : LawOfNewGtids
+  pub statements : LawOfStatements
