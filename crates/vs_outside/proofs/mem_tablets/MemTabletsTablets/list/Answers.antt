@@ -6,9 +6,12 @@ use Rattle.vs_outside.proofs.ListingLemmas.{no_names}
 use Rattle.vs_outside.proofs.mem_tablets.MemTabletsTablets.list.Goals as goal
 
 pub returns-then-is_empty-clause-names : goal.returns-then-is_empty-clause-names
-returns-then-is_empty-clause-names c =
+returns-then-is_empty-clause-names c = λ cluster told.
+    let keyspace = c.args.keyspace.now in
+    let same : cluster_of c.args.self.now.held.items ≡ cluster = cc in
     let empty : c.in_ok-names.names.items ≡ [] = grind (arith, common_steps) in
-    no_names (shard_names (cluster_of c.args.self.now.held.items) c.args.keyspace.now)
+    no_names (shard_names cluster keyspace)
     (λ name. ap (λ l. has_text l name) (sym empty)
     ∙ c.in_ok-names.ensures.names name
-    ∙ ap (λ held. has_text (shard_names (cluster_of held) c.args.keyspace.now) name) c.deref-2.ensures.value)
+    ∙ ap (λ held. has_text (shard_names (cluster_of held) keyspace) name) c.deref-2.ensures.value
+    ∙ ap (λ k. has_text (shard_names k keyspace) name) same)

@@ -1,4 +1,6 @@
-use Rattle.std.proofs.Common.{sym, ◌∙◌}
+use Rattle.std.proofs.Common.{◌≡◌, ap, sym, ◌∙◌}
+use Rattle.vs_outside.specs.Clusters.{find_shard}
+use Rattle.vs_outside.specs.Memory.{cluster_of}
 use Rattle.vs_outside.proofs.MemoryLemmas.{failures_of-rose, quiet_before}
 use Rattle.vs_outside.proofs.mem_tablets.MemTabletsTablets.open_log.Goals as goal
 
@@ -22,4 +24,7 @@ invariant_of-self-2 c = record {
 }
 
 pub returns-clause-log : goal.returns-clause-log
-returns-clause-log c = rw (c.in-Some.is, c.deref-2.ensures.value) at c.in_ok-opened.ensures.log
+returns-clause-log c = λ cluster told.
+    let same : cluster_of c.args.self.now.held.items ≡ cluster = cc in
+    let found = rw (c.in-Some.is, c.deref-2.ensures.value) at c.in_ok-opened.ensures.log in
+    (found.0, ap (λ k. find_shard k c.args.name.now) (sym same) ∙ found.1, found.2, found.3, found.4)
