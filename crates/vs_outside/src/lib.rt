@@ -17,6 +17,8 @@ mod scripted;
 mod sink;
 mod source;
 mod tablets;
+#[cfg(test)]
+mod tests;
 mod writing;
 
 pub use clock::Clock;
