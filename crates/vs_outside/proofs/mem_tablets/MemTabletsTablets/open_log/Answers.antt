@@ -1,4 +1,4 @@
-use Rattle.std.proofs.Common.{◌≡◌, ap, sym, ◌∙◌}
+use Rattle.std.proofs.Common.{◌≡◌, sym, ◌∙◌, subst, Some}
 use Rattle.vs_outside.specs.Clusters.{find_shard}
 use Rattle.vs_outside.specs.Memory.{cluster_of}
 use Rattle.vs_outside.proofs.MemoryLemmas.{failures_of-rose, quiet_before}
@@ -27,4 +27,4 @@ pub returns-clause-log : goal.returns-clause-log
 returns-clause-log c = λ cluster told.
     let same : cluster_of c.args.self.now.held.items ≡ cluster = cc in
     let found = rw (c.in-Some.is, c.deref-2.ensures.value) at c.in_ok-opened.ensures.log in
-    (found.0, ap (λ k. find_shard k c.args.name.now) (sym same) ∙ found.1, found.2, found.3, found.4)
+    (found.0, subst (λ k. find_shard k c.args.name.now ≡ Some found.0) same found.1, found.2, found.3, found.4)
