@@ -1,19 +1,19 @@
 -- What tablets in memory hold, before and after a call.
-use Rattle.std.proofs.Common.{◌≡◌, ℕ, Bool, true, false, ◌&&◌, ◌==◌, not, cond, List, [], ◌∷◌, get_or, position, find, Some, None, refl, sym, ap, ◌∙◌, arith}
+use Rattle.std.proofs.Common.{◌≡◌, ℕ, ◌+◌, ◌++◌, add-zero, arith, Bool, true, false, ◌&&◌, not, cond, List, [], ◌∷◌, get_or, position, Some, None, sym, ap, ◌∙◌, arith}
 use Rattle.std.proofs.Math.ListN.{set}
 use Rattle.std.proofs.Math.Seq.{map-set_same}
 use Rattle.std.specs.List.{list_all}
-use Rattle.std.specs.Option.{option_map, option_map_or}
-use Rattle.std.proofs.lemmas.Bool.{true≢false, and_parts, eqb-true}
-use Rattle.std.proofs.lemmas.List.Sums.{count_by-le-length}
+use Rattle.std.specs.Option.{option_map}
+use Rattle.std.proofs.lemmas.Bool.{true≢false, and_parts}
+use Rattle.std.proofs.lemmas.List.Folds.{list_all-append}
+use Rattle.std.proofs.lemmas.List.Sums.{sum_by-append, sum_by-cons}
 use Rattle.vs_base.specs.declared.shard_name.ShardName.{ShardName}
 use Rattle.vs_base.specs.Names.{same_name}
+use Rattle.vs_base.proofs.NameLemmas.{same_name-refl}
+use Rattle.vs_outside.specs.Counts.{Rose}
 use Rattle.vs_outside.specs.Clusters.{find_shard}
-use Rattle.vs_outside.specs.Counts.{IsBelowLast}
-use Rattle.vs_outside.specs.Memory.{cluster_of, shard_of, holds_no_failure, is_quiet, failures_of, HaveNoFaults}
-use Rattle.vs_outside.specs.Openings.{faults_of, have_no_faults}
+use Rattle.vs_outside.specs.Memory.{cluster_of, shard_of, holds_no_failure, is_quiet, failures_of}
 use Rattle.vs_outside.proofs.PlaceLemmas.{find-map, find-place, find-no_place, position-None, list_all-set}
-use Rattle.vs_outside.specs.declared.mem_opening.Opening.{Opening}
 use Rattle.vs_outside.specs.declared.mem_shard.Held.{Held}
 
 abbrev pub has_name : ShardName → Held → Bool
@@ -37,27 +37,6 @@ module _ (held : List Held) (place : ℕ) (h changed : Held) (is : h ≡ get_or 
   pub no_failure-set : holds_no_failure changed ≡ holds_no_failure h → list_all holds_no_failure (set held place changed) ≡ list_all holds_no_failure held
   no_failure-set same = list_all-set holds_no_failure held place changed h (same ∙ ap holds_no_failure is)
 
-no_faults_of : (openings : List Opening) (name : ShardName) → have_no_faults openings ≡ true → faults_of openings name ≡ 0
-no_faults_of [] name none = refl
-no_faults_of (o ∷ os) name none =
-    let parts = and_parts (o.faults == 0) (have_no_faults os) none in
-    go (same_name o.name name) (eqb-true o.faults 0 parts.0) (no_faults_of os name parts.1)
-  where
-    go : (b : Bool) → o.faults ≡ 0 → faults_of os name ≡ 0 → option_map_or (λ o. o.faults) (cond b (Some o) (find (λ o. same_name o.name name) os)) 0 ≡ 0
-    go true zero_here rest = zero_here
-    go false zero_here rest = rest
-
--- where there are no faults, each count can be seen to rise
-pub counts_below_last : (openings : List Opening) (failed : List ShardName) (list_faults : ℕ) → HaveNoFaults openings failed list_faults →
-    IsBelowLast list_faults × ((n : ShardName) → IsBelowLast (faults_of openings n) × IsBelowLast (failures_of failed n))
-counts_below_last openings failed list_faults (none, empty, zero_there) = (
-  omega arith,
-  λ n.
-      let faults = no_faults_of openings n none in
-      let failures = count_by-le-length (λ m. same_name m n) failed in
-      (omega arith, omega arith),
-)
-
 -- tablets with a failure in a script aren't quiet
 pub not_quiet_fetches : (held : List Held) (fetches lists : List Bool) → list_all not fetches ≡ false → is_quiet held fetches lists ≡ true → ⊥
 not_quiet_fetches held fetches lists fails quiet =
@@ -68,3 +47,30 @@ pub not_quiet_lists : (held : List Held) (fetches lists : List Bool) → list_al
 not_quiet_lists held fetches lists fails quiet =
     let parts = and_parts (list_all holds_no_failure held) (list_all not fetches && list_all not lists) quiet in
     true≢false (sym (and_parts (list_all not fetches) (list_all not lists) parts.1).1 ∙ fails)
+
+pub all_before : {X : Type 0} (p : X → Bool) (xs more : List X) → list_all p (xs ++ more) ≡ true → list_all p xs ≡ true
+all_before p xs more all = (and_parts (list_all p xs) (list_all p more) (sym (list_all-append p xs more) ∙ all)).0
+
+-- tablets were quiet, if each part was so where it is so now
+pub quiet_before : (held held' : List Held) (fetches fetches' lists lists' : List Bool) →
+    (list_all holds_no_failure held' ≡ true → list_all holds_no_failure held ≡ true) →
+    (list_all not fetches' ≡ true → list_all not fetches ≡ true) →
+    (list_all not lists' ≡ true → list_all not lists ≡ true) →
+    is_quiet held' fetches' lists' ≡ true → is_quiet held fetches lists ≡ true
+quiet_before held held' fetches fetches' lists lists' from_held from_fetches from_lists quiet =
+    let parts = and_parts (list_all holds_no_failure held') (list_all not fetches' && list_all not lists') quiet in
+    let scripts = and_parts (list_all not fetches') (list_all not lists') parts.1 in
+    ap (λ b. b && (list_all not fetches && list_all not lists)) (from_held parts.0) ∙ ap (λ b. b && list_all not lists) (from_fetches scripts.0) ∙ from_lists scripts.1
+
+-- a name that failed once more
+pub failures_of-push : (failed : List ShardName) (name n : ShardName) → failures_of (failed ++ name ∷ []) n ≡ failures_of failed n + cond (same_name name n) 1 0
+failures_of-push failed name n =
+    let more : failures_of (failed ++ name ∷ []) n ≡ failures_of failed n + failures_of (name ∷ []) n = sum_by-append (λ m. cond (same_name m n) 1 0) failed (name ∷ []) in
+    more ∙ ap (λ k. failures_of failed n + k) (sum_by-cons (λ m. cond (same_name m n) 1 0) name [] ∙ add-zero (cond (same_name name n) 1 0))
+
+pub failures_of-rose : (failed now : List ShardName) (name : ShardName) → now ≡ failed ++ name ∷ [] → Rose (failures_of failed name) (failures_of now name)
+failures_of-rose failed now name is =
+    let more : failures_of now name ≡ failures_of failed name + 1 =
+    ap (λ l. failures_of l name) is ∙ failures_of-push failed name name ∙ ap (λ b. failures_of failed name + cond b 1 0) (same_name-refl name)
+    in
+    omega arith

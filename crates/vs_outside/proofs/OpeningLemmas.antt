@@ -1,11 +1,11 @@
 -- The counts of names, before and after a call of the openings.
-use Rattle.std.proofs.Common.{◌≡◌, ℕ, zero, suc, ◌+◌, ◌≤◌, Bool, true, false, ◌==◌, cond, List, [], ◌∷◌, ◌++◌, length, get_or, position, find, Option, Some, None, refl, sym, ap, ◌∙◌, ⊎_elim, arith}
+use Rattle.std.proofs.Common.{◌≡◌, ℕ, ◌+◌, ◌≤◌, Bool, true, false, cond, List, [], ◌∷◌, ◌++◌, length, get_or, position, find, Option, Some, None, refl, sym, ap, ◌∙◌, ⊎_elim, arith}
 use Rattle.std.proofs.Math.ListN.{set}
 use Rattle.std.proofs.Math.Seq.{map-set_same, get_or-append_seam}
 use Rattle.std.specs.Option.{option_map_or, option_or}
 use Rattle.std.specs.List.{position_or_len}
 use Rattle.std.proofs.Math.ListN.{get_or-map}
-use Rattle.std.proofs.lemmas.Bool.{true≢false, ne_eqb, cases_lt}
+use Rattle.std.proofs.lemmas.Bool.{true≢false, cases_lt}
 use Rattle.std.proofs.lemmas.List.{length-map, length-append, set-get_or}
 use Rattle.std.proofs.lemmas.List.Folds.{find-set, find_past, find-append}
 use Rattle.std.proofs.lemmas.List.Quantifiers.{position-Some}
@@ -13,10 +13,10 @@ use Rattle.std.proofs.lemmas.List.Sums.{fails_before_first}
 use Rattle.vs_base.specs.declared.shard_name.ShardName.{ShardName}
 use Rattle.vs_base.specs.Names.{same_name}
 use Rattle.vs_base.proofs.NameLemmas.{same_name-refl, same_name-is}
-use Rattle.vs_outside.specs.Counts.{raised}
+use Rattle.vs_outside.specs.Counts.{raised, KeepsOthers}
 use Rattle.vs_outside.specs.Names.{StandsIn}
-use Rattle.vs_outside.specs.Openings.{opened_names, have_no_faults}
-use Rattle.vs_outside.proofs.PlaceLemmas.{position-first, position-None, list_all-set}
+use Rattle.vs_outside.specs.Openings.{opened_names}
+use Rattle.vs_outside.proofs.PlaceLemmas.{position-first, position-None}
 use Rattle.vs_outside.specs.declared.mem_opening.Opening.{Opening}
 
 abbrev pub is_of : ShardName → Opening → Bool
@@ -81,13 +81,11 @@ count_of-push f openings new none n =
     go None true = none
     go None false = refl
 
-raised-none : (n : ℕ) → (raised 0 n == 0) ≡ (n == 0)
-raised-none zero = refl
-raised-none (suc n) = ne_eqb (raised 0 (suc n)) 0 (λ e. omega arith) ∙ sym (ne_eqb (suc n) 0 (λ e. omega arith))
-
--- where no fault is added, none come
-pub have_no_faults-add : (openings : List Opening) (place : ℕ) (held changed : Opening) → held ≡ get_or openings place held →
-    (n : ℕ) → n ≡ 0 → changed.faults ≡ raised n held.faults → have_no_faults (set openings place changed) ≡ have_no_faults openings
-have_no_faults-add openings place held changed is n none added =
-    let same : (changed.faults == 0) ≡ (held.faults == 0) = ap (λ n. n == 0) (added ∙ ap (λ k. raised k held.faults) none) ∙ raised-none held.faults in
-    list_all-set (λ o. o.faults == 0) openings place changed held (same ∙ ap (λ o. o.faults == 0) is)
+-- where no fault comes and there was none, there is none
+pub no_faults-add : (before now : ShardName → ℕ) (name : ShardName) (more : ℕ) → more ≡ 0 → now name ≡ raised more (before name) → KeepsOthers name before now →
+    ((n : ShardName) → before n ≡ 0) → (n : ShardName) → now n ≡ 0
+no_faults-add before now name more none added others zeros n = go (same_name name n) refl
+  where
+    go : (b : Bool) → same_name name n ≡ b → now n ≡ 0
+    go true same = ap now (sym (same_name-is name n same)) ∙ added ∙ ap (λ k. raised k (before name)) none ∙ ap (raised 0) (zeros name)
+    go false other = others n other ∙ zeros n

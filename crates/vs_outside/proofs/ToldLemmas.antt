@@ -3,7 +3,7 @@ use Rattle.std.proofs.Common.{◌≡◌, ℕ, List, [], ◌++◌, Option, Some, 
 use Rattle.std.proofs.Common.{◌+◌, ◌-◌, ◌≤◌, length, take, drop, arith, length-drop}
 use Rattle.std.proofs.Math.Seq.{take-add}
 use Rattle.std.proofs.lemmas.List.{take_all, take-append-drop}
-use Rattle.vs_outside.specs.Told.{IsPrefixOf, Writes}
+use Rattle.vs_outside.specs.Told.{IsPrefixOf, Takes, Writes}
 
 pub IsPrefixOf-refl : (xs : List ℕ) → IsPrefixOf xs xs
 IsPrefixOf-refl xs = ([], append-nil xs)
@@ -56,3 +56,16 @@ pub Writes-cut : (before between now : Option (List ℕ)) (bytes : List ℕ) (at
 Writes-cut before between now bytes at first second =
     Writes-then (λ w. w ≡ take at bytes) (λ w. w ≡ []) (λ w. IsPrefixOf w bytes) before between now
     (λ v w p q. (drop at bytes, ap (λ l. l ++ drop at bytes) (ap (λ l. v ++ l) q ∙ append-nil v ∙ p) ∙ take-append-drop at bytes)) first second
+
+-- nothing taken
+pub Takes-none : (P : List ℕ → Type 0) (told : Option (List ℕ)) → P [] → Takes told told P
+Takes-none P None p = tt
+Takes-none P (Some before) p = ([], before, refl, refl, p)
+
+-- two reads one after the other are one
+pub Takes-then : (P Q R : List ℕ → Type 0) (before between now : Option (List ℕ)) →
+    ((v w : List ℕ) → P v → Q w → R (v ++ w)) → Takes before between P → Takes between now Q → Takes before now R
+Takes-then P Q R None between now f first second = tt
+Takes-then P Q R (Some before) between now f (v, rest, is, told, p) second =
+    let after : Takes (Some rest) now Q = subst (λ o. Takes o now Q) told second in
+    (v ++ after.0, after.1, is ∙ ap (λ l. v ++ l) after.2 ∙ sym (append_assoc v after.0 after.1), after.3, f v after.0 p after.4)

@@ -12,14 +12,21 @@ is_name_byte b = (nat_le 97 b && nat_le b 122) || (nat_le 65 b && nat_le b 90) |
 abbrev pub is_shard_byte : ℕ → Bool
 is_shard_byte b = is_name_byte b || nat_eq b 46
 
--- the text may name a keyspace: 1 to 64 such bytes
-abbrev pub is_keyspace_text : List ℕ → Bool
-is_keyspace_text text = nat_le 1 (length text) && nat_le (length text) 64 && list_all is_name_byte text
+-- 1 to 64 bytes
+abbrev pub has_name_length : List ℕ → Bool
+has_name_length text = nat_le 1 (length text) && nat_le (length text) 64
 
--- the text may name a shard: 1 to 64 such bytes, but neither '.' nor '..'
+-- the text may name a keyspace
+abbrev pub is_keyspace_text : List ℕ → Bool
+is_keyspace_text text = has_name_length text && list_all is_name_byte text
+
+-- the text is '.' or '..'
+abbrev pub is_dots : List ℕ → Bool
+is_dots text = pointwise nat_eq text (46 ∷ []) || pointwise nat_eq text (46 ∷ 46 ∷ [])
+
+-- the text may name a shard, and isn't empty
 abbrev pub is_shard_text : List ℕ → Bool
-is_shard_text text = nat_le 1 (length text) && nat_le (length text) 64 && list_all is_shard_byte text
-    && not (pointwise nat_eq text (46 ∷ [])) && not (pointwise nat_eq text (46 ∷ 46 ∷ []))
+is_shard_text text = not (is_dots text) && (has_name_length text && list_all is_shard_byte text)
 
 -- the name is one of the names
 abbrev pub StandsIn : ShardName → List ShardName → Type 0

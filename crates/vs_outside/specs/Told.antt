@@ -9,3 +9,8 @@ IsPrefixOf xs ys = (rest : List ℕ) × (xs ++ rest ≡ ys)
 abbrev pub Writes : Option (List ℕ) → Option (List ℕ) → (List ℕ → Type 0) → Type 0
 Writes None now P = Unit {0}
 Writes (Some before) now P = (written : List ℕ) × (now ≡ Some (before ++ written)) × P written
+
+-- a source that told what was left tells it still: what it told, without the bytes of the read in front, of which P holds
+abbrev pub Takes : Option (List ℕ) → Option (List ℕ) → (List ℕ → Type 0) → Type 0
+Takes None now P = Unit {0}
+Takes (Some before) now P = (taken rest : List ℕ) × (before ≡ taken ++ rest) × (now ≡ Some rest) × P taken

@@ -11,10 +11,14 @@ mod mem_shard;
 mod mem_shards;
 mod mem_sink;
 mod mem_source;
-// mod mem_tablets;
+mod mem_tablets;
+mod names;
+mod scripted;
 mod sink;
 mod source;
 mod tablets;
+#[cfg(test)]
+mod tests;
 mod writing;
 
 pub use clock::Clock;
@@ -23,7 +27,8 @@ pub use mem_clock::MemClock;
 pub use mem_feed::{FeedAnswer, MemFeed};
 pub use mem_sink::{MemSink, SinkAnswer};
 pub use mem_source::MemSource;
-// pub use mem_tablets::MemTablets;
+pub use mem_tablets::MemTablets;
+pub use names::{names_keyspace, names_shard};
 pub use sink::Sink;
 pub use source::{Failed, Source};
 pub use tablets::{AskEnd, Opened, Tablets};

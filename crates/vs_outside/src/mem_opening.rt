@@ -2,7 +2,7 @@ ghost use Rattle.std.specs.Prelude.{◌≡◌, ◌++◌, ◌∷◌, [], OnErr, O
 ghost use Rattle.vs_base.specs.Names.{same_name};
 ghost use Rattle.vs_outside.specs.Counts.{KeepsCounts, KeepsOthers, raised};
 ghost use Rattle.vs_outside.specs.Names.{StandsIn};
-ghost use Rattle.vs_outside.specs.Openings.{faults_of, have_no_faults, opened_names, waits_of};
+ghost use Rattle.vs_outside.specs.Openings.{faults_of, opened_names, waits_of};
 
 use std::alloc::Global;
 use vs_base::{OutOfMemory, ShardName};
@@ -35,7 +35,6 @@ impl Openings {
         ensures names { OnOk result (opened_names self.new.openings.items ≡ opened_names self.old.openings.items ++ name.now ∷ []) }
         ensures faults { KeepsCounts (faults_of self.old.openings.items) (faults_of self.new.openings.items) }
         ensures waits { KeepsCounts (waits_of self.old.openings.items) (waits_of self.new.openings.items) }
-        ensures no_faults { have_no_faults self.new.openings.items ≡ have_no_faults self.old.openings.items }
         ensures err { OnErr result (self.new.openings.items ≡ self.old.openings.items) }
     {
         let opening = Opening {
@@ -61,7 +60,6 @@ impl Openings {
         ensures waits { waits_of self.new.openings.items name.now ≡ raised waits (waits_of self.old.openings.items name.now) }
         ensures other_faults { KeepsOthers name.now (faults_of self.old.openings.items) (faults_of self.new.openings.items) }
         ensures other_waits { KeepsOthers name.now (waits_of self.old.openings.items) (waits_of self.new.openings.items) }
-        ensures no_faults { faults ≡ 0 → have_no_faults self.new.openings.items ≡ have_no_faults self.old.openings.items }
     {
         let Some(place) = self.place_of(name) else {
             return;

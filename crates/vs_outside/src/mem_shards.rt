@@ -83,9 +83,9 @@ pub fn open_held(
 }
 
 /// The next opening of the name reads by its next script.
-pub fn advance(held: &mut [Held], name: &ShardName)
-    ensures cluster { cluster_of held.new ≡ cluster_of held.old }
-    ensures quiet { list_all holds_no_failure held.new ≡ list_all holds_no_failure held.old }
+pub fn advance(held: &mut Vec<Held>, name: &ShardName)
+    ensures cluster { cluster_of held.new.items ≡ cluster_of held.old.items }
+    ensures quiet { list_all holds_no_failure held.new.items ≡ list_all holds_no_failure held.old.items }
 {
     if let Some(place) = place_of(held, name) {
         let shard = &mut held[place];

@@ -1,5 +1,6 @@
 ghost use Rattle.std.specs.Prelude.{◌≤◌, length};
 
+use crate::scripted::fails_at;
 use crate::{Failed, Source};
 use std::alloc::Global;
 use vs_base::OutOfMemory;
@@ -41,7 +42,7 @@ impl Source for MemSource {
     ghost faults = { λ s. s.faults };
 
     fn read(&mut self, buf: &mut [u8]) -> Result<usize, Failed> {
-        let fails = self.fails.get(self.next).copied() == Some(true);
+        let fails = fails_at(&self.fails, self.next);
         self.next = self.next.saturating_add(1);
         if fails {
             self.faults = self.faults.saturating_add(1);

@@ -8,21 +8,19 @@ pub trait Source {
       ◌≡◌,
       ◌≤◌,
       ◌<◌,
-      ◌++◌,
       ℕ,
       List,
       [],
       length,
       take,
       Option,
-      Ok,
       IfOk,
       OnErr,
-      IfSome,
-      IsSomeAnd,
       MatchResult,
     };
+    ghost use Rattle.std.specs.Option.{ForSome};
     ghost use Rattle.vs_outside.specs.Counts.{Rose};
+    ghost use Rattle.vs_outside.specs.Told.{Takes};
 
     /// The bytes that are still to come, where the source tells them.
     ghost left: { Self → Option (List ℕ) };
@@ -34,8 +32,8 @@ pub trait Source {
     /// is not empty means that nothing is left.
     fn read(&mut self, buf: &mut [u8]) -> Result<usize, Failed>
         ensures fits { IfOk result (λ n. n ≤ length buf.new) }
-        ensures takes { IfSome (left self.old) (λ before. IsSomeAnd (left self.new) (λ after. MatchResult result (λ n. before ≡ take n buf.new ++ after) (λ _. after ≡ before))) }
-        ensures end { IfSome (left self.old) (λ before. IfOk result (λ n. n ≡ 0 → 0 < length buf.new → before ≡ [])) }
+        ensures takes { Takes (left self.old) (left self.new) (λ taken. MatchResult result (λ n. taken ≡ take n buf.new) (λ _. taken ≡ [])) }
+        ensures end { IfOk result (λ n. n ≡ 0 → 0 < length buf.new → ForSome (left self.old) (λ before. before ≡ [])) }
         ensures later { faults self.old ≤ faults self.new }
         ensures failed { OnErr result (Rose (faults self.old) (faults self.new)) };
 }

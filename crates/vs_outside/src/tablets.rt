@@ -52,6 +52,7 @@ pub trait Tablets {
       MatchOption,
       MatchResult,
     };
+    ghost use Rattle.std.specs.Option.{ForSome};
     ghost use Rattle.vs_base.specs.declared.shard_name.ShardName.{ShardName};
     ghost use Rattle.vs_outside.specs.declared.tablets.AskEnd.TheVariants.{Failed};
     ghost use Rattle.vs_outside.specs.Clusters.{
@@ -108,7 +109,7 @@ pub trait Tablets {
     /// The shards of a keyspace, ascending; or none where the cluster has none.
     fn list(&mut self, alloc: Global, keyspace: &[u8]) -> Result<Option<Vec<Text>>, AskEnd>
         ensures listing { IfOk result (λ o. IfSome o (λ names. IsListing names.items)) }
-        ensures names { IfOk result (λ o. IfSome (cluster self.old) (λ c. MatchOption o (shard_names c keyspace.now ≡ []) (λ names. AreNamesOf c keyspace.now names.items))) }
+        ensures names { IfOk result (λ o. ForSome (cluster self.old) (λ c. MatchOption o (shard_names c keyspace.now ≡ []) (λ names. AreNamesOf c keyspace.now names.items))) }
         ensures later { list_faults self.old ≤ list_faults self.new }
         ensures failed { result ≡ Err Failed → Rose (list_faults self.old) (list_faults self.new) }
         ensures steady { IsTrue (sound self.old) → list_faults self.new ≡ list_faults self.old }
@@ -125,8 +126,8 @@ pub trait Tablets {
         alloc: Global,
         name: &ShardName,
     ) -> Result<Option<Opened<Self::Feed>>, AskEnd>
-        ensures log { IfOk result (λ o. IfSome (cluster self.old) (λ c. MatchOption o (find_shard c name.now ≡ None) (λ o. (s : Shard) × (find_shard c name.now ≡ Some s) × (Self.Feed.all o.feed ≡ Some s.log) × (Self.Feed.given o.feed ≡ Some []) × (o.schema ≡ s.schema)))) }
-        ensures front { IfOk result (λ o. IfSome o (λ o. IfSome (Self.Feed.all o.feed) (λ _. Self.Feed.given o.feed ≡ Some []))) }
+        ensures log { IfOk result (λ o. ForSome (cluster self.old) (λ c. MatchOption o (find_shard c name.now ≡ None) (λ o. (s : Shard) × (find_shard c name.now ≡ Some s) × (Self.Feed.all o.feed ≡ Some s.log) × (Self.Feed.given o.feed ≡ Some []) × (o.schema ≡ s.schema)))) }
+        ensures front { IfOk result (λ o. IfSome o (λ o. ForSome (Self.Feed.all o.feed) (λ _. Self.Feed.given o.feed ≡ Some []))) }
         ensures origin { IfOk result (λ o. IfSome o (λ o. Self.Feed.origin o.feed ≡ name.now)) }
         ensures fresh { IfOk result (λ o. IfSome o (λ o. (Self.Feed.faults o.feed ≡ 0) × (Self.Feed.waits o.feed ≡ 0))) }
         ensures sound_feed { IfOk result (λ o. IfSome o (λ o. IsTrue (sound self.old) → IsTrue (Self.Feed.sound o.feed))) }

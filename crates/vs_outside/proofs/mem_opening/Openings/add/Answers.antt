@@ -1,5 +1,5 @@
 use Rattle.std.proofs.Common.{◌≡◌, Some, position, sym, ◌∙◌, refl}
-use Rattle.vs_outside.proofs.OpeningLemmas.{is_of, count_of-add, count_of-other, opened_names-set, opened_has_place, have_no_faults-add}
+use Rattle.vs_outside.proofs.OpeningLemmas.{is_of, count_of-add, count_of-other, opened_names-set, opened_has_place}
 use Rattle.vs_outside.proofs.mem_opening.Openings.add.Goals as goal
 
 no_place : (c : goal.In_default) → ⊥
@@ -34,7 +34,3 @@ returns-clause-other_faults c =
 pub returns-clause-other_waits : goal.returns-clause-other_waits
 returns-clause-other_waits c =
     count_of-other c.args.self.now.openings.items c.args.name.now c.in-Some.place c.index_mut-opening.result.now _ (at_place c) c.index_mut-opening.ensures.value refl (λ o. o.waits)
-
-pub returns-clause-no_faults : goal.returns-clause-no_faults
-returns-clause-no_faults c = λ none.
-    have_no_faults-add c.args.self.now.openings.items c.in-Some.place c.index_mut-opening.result.now _ c.index_mut-opening.ensures.value c.args.faults none c.saturating_add-opening.ensures
