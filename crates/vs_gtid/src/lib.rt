@@ -21,3 +21,6 @@ pub use laws::{law_added, law_equal_sets, law_united};
 pub use refusal::GtidRefusal;
 pub use set::GtidSet;
 pub use vs_base::OutOfMemory;
+
+#[cfg(test)]
+mod tests;
