@@ -1,4 +1,5 @@
 pub mod AddLemmas
+pub mod BlockLemmas
 pub mod EqualSets
 pub mod JoinLemmas
 pub mod MergeLemmas

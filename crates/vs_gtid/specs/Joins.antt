@@ -5,7 +5,7 @@ use Rattle.vs_gtid.specs.declared.refusal.GtidRefusal.{GtidRefusal}
 use Rattle.vs_gtid.specs.declared.refusal.GtidRefusal.TheVariants.{TooManyIntervals}
 use Rattle.std.specs.declared.cmp.Ordering.TheVariants.{Less}
 use Rattle.vs_gtid.specs.Positions.{Position}
-use Rattle.std.specs.Prelude.{◌≡◌, ◌⊎◌, ◌≤◌, ◌<◌, ◌-◌, length, slice_index_or, Result, Ok, Err, ℕ, ◌+◌, Bool, ◌&&◌, ◌||◌, List, [], ◌∷◌, nat_eq, nat_lt, min, max, if◌then◌else◌}
+use Rattle.std.specs.Prelude.{◌++◌, ◌≡◌, ◌⊎◌, ◌≤◌, ◌<◌, ◌-◌, length, slice_index_or, Result, Ok, Err, ℕ, ◌+◌, Bool, ◌&&◌, ◌||◌, List, [], ◌∷◌, nat_eq, nat_lt, min, max, if◌then◌else◌}
 use Rattle.std.specs.List.{prefix_len}
 use Rattle.std.specs.Ordering.{nat_cmp, is_lt}
 use Rattle.std.specs.Cmp.Lexicographic.{pointwise, slice_cmp}
@@ -58,3 +58,7 @@ LastBeginsBy p i = (d : Interval) → 0 < length p → BeginsBy (slice_index_or 
 -- each interval begins no later than the next
 abbrev pub AreInOrder : List Interval → Type 0
 AreInOrder is = (k : ℕ) (d : Interval) → k + 1 < length is → BeginsBy (slice_index_or is k d) (slice_index_or is (k + 1) d)
+
+-- the set of the GTIDs of both
+unfoldable pub united : Position → Position → Position
+united p q = merged (p ++ q)
