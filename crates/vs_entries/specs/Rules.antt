@@ -9,10 +9,10 @@ use Rattle.vs_log.specs.declared.state.Statement.TheVariants.{Begin}
 use Rattle.vs_log.specs.Queries.{statement_of}
 use Rattle.vs_log.specs.Table.{Rules}
 
--- a statement, where it is read
-abbrev pub unless_begin : Result Statement Why → Result Statement Why
-unless_begin (Ok Begin) = Err NotBuilt
-unless_begin statement = statement
+-- the statement, unless it begins a transaction of rows
+abbrev pub built_statement : Result Statement Why → Result Statement Why
+built_statement (Ok Begin) = Err NotBuilt
+built_statement statement = statement
 
 -- The base in the body of a PREVIOUS_GTIDS event: a count of UUIDs, and what stands behind it. Only an empty one is read.
 abbrev pub block_in : List ℕ → Result Position Why
@@ -24,7 +24,7 @@ block_in body =
 -- how the log of a shard of the keyspace is read
 abbrev pub rules_of : List ℕ → Rules
 rules_of keyspace = record {
-  statement = λ body. unless_begin (statement_of keyspace body);
+  statement = λ body. built_statement (statement_of keyspace body);
   block = block_in;
   map = λ body. Some NotBuilt;
   rows = λ maps kind body. Err NotBuilt;

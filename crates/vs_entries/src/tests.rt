@@ -4,20 +4,20 @@ use std::test::Fail;
 use vs_base::Why;
 use vs_gtid::Work;
 
+/// An event of these flags and this body.
 fn put_event(
     log: &mut Vec<u8>,
     time: u32,
     kind: u8,
-    flags: u16,
+    flags: u8,
     body: &[u8],
 ) -> Result<(), AllocError> {
-    let length = (19 + body.len() % 65_536) as u32;
-    log.extend_from_slice(&time.to_le_bytes())?;
-    log.extend_from_slice(&[kind])?;
-    log.extend_from_slice(&[0; 4])?;
-    log.extend_from_slice(&length.to_le_bytes())?;
-    log.extend_from_slice(&[0; 4])?;
-    log.extend_from_slice(&flags.to_le_bytes())?;
+    let mut head = [0; 19];
+    head[..4].copy_from_slice(&time.to_le_bytes());
+    head[4] = kind;
+    head[9..13].copy_from_slice(&((19 + body.len() % 65_536) as u32).to_le_bytes());
+    head[17] = flags;
+    log.extend_from_slice(&head)?;
     log.extend_from_slice(body)
 }
 
@@ -46,12 +46,10 @@ fn put_query(
     text: &[u8],
     alloc: Global,
 ) -> Result<(), AllocError> {
-    let mut body = Vec::new(alloc);
-    body.extend_from_slice(&[0; 8])?;
-    body.extend_from_slice(&[(schema.len() % 256) as u8])?;
-    body.extend_from_slice(&[0; 4])?;
+    let mut body = Vec::from_slice(alloc, &[0; 13])?;
+    body[8] = (schema.len() % 256) as u8;
     body.extend_from_slice(schema)?;
-    body.extend_from_slice(&[0])?;
+    body.push(0)?;
     body.extend_from_slice(text)?;
     put_event(log, time, 2, 0, body.as_slice())
 }
