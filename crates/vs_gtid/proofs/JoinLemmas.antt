@@ -1,14 +1,15 @@
 -- What `joined` and `merged` give: the same GTIDs, in canonical order.
-use Rattle.std.proofs.Common.{◌≡◌, ℕ, ◌<◌, ◌≤◌, ◌&&◌, ◌||◌, Bool, true, false, List, [], ◌∷◌, length, nat_eq, refl, ap, ◌∙◌, inl, inr, leb, arith}
+use Rattle.std.proofs.Common.{◌≡◌, ℕ, ◌<◌, ◌≤◌, ◌&&◌, ◌||◌, Bool, true, false, List, [], ◌∷◌, ◌++◌, length, nat_eq, refl, ap, ◌∙◌, inl, inr, leb, arith}
 use Rattle.std.proofs.lemmas.Bool.{cases_Bool}
 use Rattle.std.proofs.lemmas.Bool.Decides.{nat_tests}
 use Rattle.std.specs.Cmp.Lexicographic.{pointwise}
-use Rattle.std.proofs.lemmas.List.Elements.{All-head, All-tail}
+use Rattle.std.proofs.lemmas.List.Elements.{All-head, All-tail, All-nil, All-cons}
+use Rattle.std.proofs.lemmas.List.Folds.{list_any-append}
 use Rattle.std.specs.List.{All, slice_index}
 use Rattle.vs_base.specs.declared.gtid.Gtid.{Gtid}
 use Rattle.vs_gtid.specs.declared.interval.Interval.{Interval}
 use Rattle.vs_gtid.specs.Positions.{Position, has, is_within, StandsBefore, StandsBeforeFirst, IsCanonical, IsInterval}
-use Rattle.vs_gtid.specs.Joins.{stands_before, hull, joined, merged, alone, added}
+use Rattle.vs_gtid.specs.Joins.{stands_before, hull, joined, merged, united, alone, added}
 use Rattle.vs_gtid.proofs.Order.{Before-trans, stands_before-is, meet, is_within-hull, IsInterval-hull, StandsBefore-hull}
 use Rattle.vs_base.specs.Names.{same_gtid}
 
@@ -36,7 +37,7 @@ has-joined (i ∷ rest) k h g =
       ]
     ]
 
-or_turn : (a b : Bool) → (a || b) ≡ (b || a)
+pub or_turn : (a b : Bool) → (a || b) ≡ (b || a)
 or_turn true true = refl
 or_turn true false = refl
 or_turn false true = refl
@@ -103,3 +104,20 @@ unfolding merged
 IsCanonical-merged [] a = tt
 IsCanonical-merged (i ∷ rest) a =
     IsCanonical-joined (merged rest) i (All-head IsInterval i rest a) (IsCanonical-merged rest (All-tail IsInterval i rest a))
+
+AreIntervals : (p : Position) → IsCanonical p → All IsInterval p
+AreIntervals [] c = All-nil IsInterval
+AreIntervals (i ∷ rest) c = All-cons IsInterval i rest c.0 (AreIntervals rest c.2)
+
+pub AreIntervals-both : (p q : Position) → IsCanonical p → IsCanonical q → All IsInterval (p ++ q)
+AreIntervals-both [] q a b = AreIntervals q b
+AreIntervals-both (i ∷ rest) q a b = All-cons IsInterval i (rest ++ q) a.0 (AreIntervals-both rest q a.2 b)
+
+-- the union has the GTIDs of both, and is canonical
+pub has-united : (p q : Position) → IsCanonical p → IsCanonical q → (g : Gtid) → has (united p q) g ≡ (has p g || has q g)
+unfolding has united
+has-united p q a b g = has-merged (p ++ q) (AreIntervals-both p q a b) g ∙ list_any-append (is_within g) p q
+
+pub IsCanonical-united : (p q : Position) → IsCanonical p → IsCanonical q → IsCanonical (united p q)
+unfolding united
+IsCanonical-united p q a b = IsCanonical-merged (p ++ q) (AreIntervals-both p q a b)

@@ -1,8 +1,11 @@
 -- The canonical list of a set of GTIDs: how an interval, a GTID or a whole list comes into it.
 use Rattle.vs_base.specs.declared.gtid.Gtid.{Gtid}
 use Rattle.vs_gtid.specs.declared.interval.Interval.{Interval}
+use Rattle.vs_gtid.specs.declared.refusal.GtidRefusal.{GtidRefusal}
+use Rattle.vs_gtid.specs.declared.refusal.GtidRefusal.TheVariants.{TooManyIntervals}
+use Rattle.std.specs.declared.cmp.Ordering.TheVariants.{Less}
 use Rattle.vs_gtid.specs.Positions.{Position}
-use Rattle.std.specs.Prelude.{ℕ, ◌+◌, Bool, ◌&&◌, ◌||◌, List, [], ◌∷◌, nat_eq, nat_lt, min, max, if◌then◌else◌}
+use Rattle.std.specs.Prelude.{◌++◌, ◌≡◌, ◌⊎◌, ◌≤◌, ◌<◌, ◌-◌, length, slice_index_or, Result, Ok, Err, ℕ, ◌+◌, Bool, ◌&&◌, ◌||◌, List, [], ◌∷◌, nat_eq, nat_lt, min, max, if◌then◌else◌}
 use Rattle.std.specs.List.{prefix_len}
 use Rattle.std.specs.Ordering.{nat_cmp, is_lt}
 use Rattle.std.specs.Cmp.Lexicographic.{pointwise, slice_cmp}
@@ -39,3 +42,23 @@ added p g = joined (alone g) p
 -- k's place in a canonical list: behind the intervals that stand before it
 abbrev pub place : Interval → Position → ℕ
 place k p = prefix_len (λ (i : Interval). stands_before i k) p
+
+-- a set, where it has at most 1,024 intervals
+abbrev pub limited : Position → Result Position GtidRefusal
+limited p = if nat_lt 1024 (length p) then Err TooManyIntervals else Ok p
+
+-- l begins no later than i: its UUID is less, or it is the same and its first number is no greater
+abbrev pub BeginsBy : Interval → Interval → Type 0
+BeginsBy l i = (slice_cmp nat_cmp l.uuid i.uuid ≡ Less) ⊎ ((l.uuid ≡ i.uuid) × (l.first ≤ i.first))
+
+-- the last interval of the list, where it has one, begins no later than i
+abbrev pub LastBeginsBy : Position → Interval → Type 0
+LastBeginsBy p i = (d : Interval) → 0 < length p → BeginsBy (slice_index_or p (length p - 1) d) i
+
+-- each interval begins no later than the next
+abbrev pub AreInOrder : List Interval → Type 0
+AreInOrder is = (k : ℕ) (d : Interval) → k + 1 < length is → BeginsBy (slice_index_or is k d) (slice_index_or is (k + 1) d)
+
+-- the set of the GTIDs of both
+unfoldable pub united : Position → Position → Position
+united p q = merged (p ++ q)

@@ -1,3 +1,4 @@
+pub mod Block
 pub mod Joins
 pub mod Missing
 pub mod Positions

@@ -2,16 +2,25 @@
 #![tactic(auto)]
 
 mod add;
+mod block;
 mod compare;
 mod entry;
 mod interval;
 mod journal;
+mod laws;
+mod merge;
 mod refusal;
 mod set;
+mod text;
+mod union;
 
 pub use entry::{Entry, Work};
 pub use interval::Interval;
 pub use journal::{JournalValue, Successor};
+pub use laws::{law_added, law_equal_sets, law_united};
 pub use refusal::GtidRefusal;
 pub use set::GtidSet;
 pub use vs_base::OutOfMemory;
+
+#[cfg(test)]
+mod tests;

@@ -1,4 +1,4 @@
-use std::alloc::AllocFailed;
+use std::alloc::{AllocError, AllocFailed};
 use thiserror::Error;
 
 /// Why a GTID set can't be read or built.
@@ -29,6 +29,17 @@ impl<T: Drop> From<AllocFailed<T>> for GtidRefusal {
     ghost from_gives = { λ _ e. e ≡ Memory };
 
     fn from(_failed: AllocFailed<T>) -> GtidRefusal {
+        GtidRefusal::Memory
+    }
+}
+
+impl From<AllocError> for GtidRefusal {
+    ghost use Rattle.std.specs.Prelude.{◌≡◌};
+    ghost use Rattle.vs_gtid.specs.declared.refusal.GtidRefusal.TheVariants.{Memory};
+
+    ghost from_gives = { λ _ e. e ≡ Memory };
+
+    fn from(_error: AllocError) -> GtidRefusal {
         GtidRefusal::Memory
     }
 }
