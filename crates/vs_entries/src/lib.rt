@@ -6,6 +6,7 @@
 
 mod body;
 mod event;
+mod laws;
 mod log;
 mod query;
 mod reader;
@@ -14,4 +15,5 @@ mod refusal;
 mod tests;
 mod word;
 
+pub use laws::law_statements;
 pub use log::{LogFault, LogRead, read_log};

@@ -1,20 +1,15 @@
 -- The laws that tie the table to the productions.
 use Rattle.std.specs.List.{AllByRecursion}
-use Rattle.std.specs.Prelude.{false, ◌≡◌, ◌≤◌, length, take, ◌⊎◌, List, [], ◌∷◌, ◌++◌, Some, None, Result, Ok, Err, ℕ}
+use Rattle.std.specs.Prelude.{false, ◌≡◌, ◌≤◌, length, take, ◌⊎◌, List, [], ◌∷◌, ◌++◌, Some, None, Ok, Err, ℕ}
 use Rattle.vs_base.specs.declared.Why.{Why}
 use Rattle.vs_gtid.specs.declared.Entry.{Entry}
 use Rattle.vs_gtid.specs.Logs.{Log, HaveDistinctGtids}
-use Rattle.vs_gtid.specs.Positions.{Position, IsCanonical, has}
+use Rattle.vs_gtid.specs.Positions.{Position, has}
 use Rattle.vs_log.specs.declared.state.State.{State}
 use Rattle.vs_log.specs.Events.{Event}
-use Rattle.vs_log.specs.Table.{Rules, step, ◌>>=◌}
+use Rattle.vs_log.specs.Table.{Rules, step}
 use Rattle.vs_log.specs.Meaning.{log_meant}
 use Rattle.vs_log.specs.Productions.{Begins, IsWholeLog, Means}
-
--- the state to which events lead
-abbrev pub walk : Rules → State → List Event → Result State Why
-walk rules s [] = Ok s
-walk rules s (e ∷ es) = step rules s e >>= λ next. walk rules next es
 
 -- The table takes an event where, and only where, the beginning of a log goes on with it.
 pub record TakesBeginnings (rules : Rules) : Type 0 where
@@ -38,17 +33,26 @@ pub record Grows (rules : Rules) (bytes more : List ℕ) : Type 0 where
   -- what a whole log says
   pub whole : (base : Position) (es : List Entry) → IsWholeLog rules bytes base es → log_meant rules bytes ≡ record { base = base; entries = es; fault = None }
 
--- The entries and the base are those of a front of the bytes that is a whole log, or there are none; and what any whole log at the front has, comes first.
+-- no front of the bytes is a whole log
+abbrev pub HasNone : Rules → List ℕ → Type 0
+HasNone rules bytes = (front more : List ℕ) (base : Position) (es : List Entry) → bytes ≡ front ++ more → IsWholeLog rules front base es → ⊥
+
+-- these are the base and the entries of the longest front of the bytes that is a whole log
+pub record IsLongest (rules : Rules) (bytes : List ℕ) (base : Position) (entries : List Entry) : Type 0 where
+  pub prefix : List ℕ
+  pub rest : List ℕ
+  pub are : bytes ≡ prefix ++ rest
+  pub whole : IsWholeLog rules prefix base entries
+  pub longest : (front more : List ℕ) (b : Position) (es : List Entry) → bytes ≡ front ++ more → IsWholeLog rules front b es → length front ≤ length prefix
+
+-- The base and the entries are those of the longest front that is a whole log. Where no front is one, there are none.
 pub record IsOfWholeLog (rules : Rules) (bytes : List ℕ) : Type 0 where
-  pub some : ((prefix : List ℕ) × (rest : List ℕ) × (bytes ≡ prefix ++ rest) × IsWholeLog rules prefix (log_meant rules bytes).base (log_meant rules bytes).entries)
-      ⊎ (((log_meant rules bytes).base ≡ []) × ((log_meant rules bytes).entries ≡ []))
-  pub longest : (prefix rest : List ℕ) (base : Position) (es : List Entry) → bytes ≡ prefix ++ rest → IsWholeLog rules prefix base es → (later : List Entry) × ((log_meant rules bytes).entries ≡ es ++ later)
+  pub some : IsLongest rules bytes (log_meant rules bytes).base (log_meant rules bytes).entries
+      ⊎ (HasNone rules bytes × ((log_meant rules bytes).base ≡ []) × ((log_meant rules bytes).entries ≡ []))
+  -- what a whole log at the front has, comes first
+  pub fronts : (front more : List ℕ) (base : Position) (es : List Entry) → bytes ≡ front ++ more → IsWholeLog rules front base es → (later : List Entry) × ((log_meant rules bytes).entries ≡ es ++ later)
 
 -- no GTID of the log stands twice, or lies in the base
 pub record HasNewGtids (log : Log) : Type 0 where
   pub distinct : HaveDistinctGtids log.entries
   pub lacking : AllByRecursion (λ e. has log.base e.gtid ≡ false) log.entries
-
--- the bases that the rules read are canonical
-abbrev pub ReadsCanonicalBases : Rules → Type 0
-ReadsCanonicalBases rules = (body : List ℕ) (base : Position) → rules.block body ≡ Ok base → IsCanonical base

@@ -3,7 +3,11 @@
 #![tactic(auto)]
 
 mod event;
+mod laws;
 mod state;
+#[cfg(test)]
+mod tests;
 
 pub use event::Sort;
+pub use laws::{law_beginnings, law_distinct, law_growth, law_longest, law_meaning};
 pub use state::{Counted, Place, State, Statement};

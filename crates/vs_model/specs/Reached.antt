@@ -6,7 +6,7 @@ use Rattle.vs_gtid.specs.declared.JournalValue.{JournalValue}
 use Rattle.vs_gtid.specs.declared.Entry.{Entry}
 use Rattle.vs_model.specs.Names.{Position, SameSet, IsSubset, same_name, is_in}
 use Rattle.vs_model.specs.Logs.{Cluster, journal_of, log_of, due, stop, IsPositionAfter}
-use Rattle.vs_model.specs.Vectors.{Vector, Place, place_of, stands, names, Streams, successors_of}
+use Rattle.vs_model.specs.Vectors.{Vector, Place, place_of, stands, names, Streams, Copies, successors_of}
 use Rattle.vs_model.specs.Vectors.Place.{Fresh, Copying, Streaming}
 use Rattle.vs_model.specs.Frames.{Frame, frames_of}
 use Rattle.vs_model.specs.Copy.{Filter}
@@ -97,3 +97,5 @@ pub record AreLogsValid (cluster : Cluster) (v0 : Vector) : Type 0 where
   pub unique : StartsAreUnique cluster v0
   pub known : (s : ShardName) (p : Position) → Reached cluster v0 s p → IsTrue (is_in s (map (λ c. c.0) cluster)) × ((log_of cluster s).fault ≡ None)
   pub bases : (s : ShardName) (p : Position) → Reached cluster v0 s p → IsSubset (log_of cluster s).base p
+  -- a shard that copies has a log that begins with nothing
+  pub copies : (s : ShardName) (place : Place) → Copies v0 s place → SameSet (log_of cluster s).base []

@@ -1,5 +1,5 @@
 -- Which first vectors a request may have, and which head of the shards' pieces is sent next.
-use Rattle.std.specs.Prelude.{◌≡◌, ℕ, ◌<◌, ◌≤◌, Bool, true, List, [], ◌∷◌, map, length, take, nat_eq, slice_index, if◌then◌else◌}
+use Rattle.std.specs.Prelude.{◌≡◌, ℕ, ◌<◌, ◌≤◌, true, List, [], ◌∷◌, map, length, take, nat_eq, slice_index, if◌then◌else◌}
 use Rattle.std.specs.List.{filter, flat_map, AllZip}
 use Rattle.std.specs.Cmp.Lexicographic.{pointwise}
 use Rattle.vs_base.specs.declared.ShardName.{ShardName}

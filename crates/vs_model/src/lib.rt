@@ -2,16 +2,20 @@
 //! The filter is a parameter, and so is the meaning of a log's bytes.
 #![tactic(auto)]
 
+#[cfg(test)]
+mod tests;
+
 ghost use Rattle.std.specs.Prelude.{◌≡◌, ◌++◌, List, ℕ};
 ghost use Rattle.vs_base.specs.declared.ShardName.{ShardName};
 ghost use Rattle.vs_gtid.specs.declared.Entry.{Entry};
 ghost use Rattle.vs_gtid.specs.declared.JournalValue.{JournalValue};
 ghost use Rattle.vs_model.specs.Copy.{Filter};
 ghost use Rattle.vs_model.specs.Frames.Frame.{AllCopied, Beat, Halt, Switch, Tx};
-ghost use Rattle.vs_model.specs.Frames.{Frame};
+ghost use Rattle.vs_model.specs.Frames.{Frame, last_vector};
 ghost use Rattle.vs_model.specs.Legal.{AllCopiedFollows, HasGathered, Legal, NoneCopies};
 ghost use Rattle.vs_model.specs.Logs.{Cluster, HaveDistinctGtids, IsPositionAfter, Log, LogsAreDistinct, due, stop};
 ghost use Rattle.vs_model.specs.Names.{Position};
+ghost use Rattle.vs_model.specs.Reached.{HasAllDue, IsFinal, IsSettled, StartsAreUnique, StartsToStream};
 ghost use Rattle.vs_model.specs.Steps.{SendsCopy, SendsTx, Step, Steps};
 ghost use Rattle.vs_model.specs.Vectors.{IsCanonicalVector, Vector, switched};
 
@@ -21,6 +25,22 @@ pub fn law_steps()
         AllCopiedFollows fs → Steps cluster rules v0 fs → Legal cluster rules v0 fs }
     ensures only { (cluster : Cluster) (rules : Filter) (v0 : Vector) (fs : List Frame) →
         Legal cluster rules v0 fs → Steps cluster rules v0 fs }
+{}
+
+/// A client that resumes at its last vector has a legal list of all that it got.
+pub fn law_resume()
+    ensures { (cluster : Cluster) (rules : Filter) (v0 : Vector) (fs gs : List Frame) → LogsAreDistinct cluster →
+        Legal cluster rules v0 fs → Legal cluster rules (last_vector v0 fs) gs → Legal cluster rules v0 (fs ++ gs) }
+{}
+
+/// A finished stream ends at the final positions of its cluster, whatever the order of events was,
+/// and has sent all that was due.
+pub fn law_final()
+    ensures ends { (cluster : Cluster) (rules : Filter) (v0 : Vector) (fs : List Frame) → LogsAreDistinct cluster → StartsAreUnique cluster v0 →
+        Legal cluster rules v0 fs → IsSettled cluster (last_vector v0 fs) → IsFinal cluster v0 (last_vector v0 fs) }
+    ensures sent { (cluster : Cluster) (rules : Filter) (v0 : Vector) (fs : List Frame) → LogsAreDistinct cluster → StartsAreUnique cluster v0 →
+        Legal cluster rules v0 fs → IsSettled cluster (last_vector v0 fs) →
+        (s : ShardName) (p : Position) → StartsToStream cluster v0 s p → HasAllDue cluster rules fs s p }
 {}
 
 /// Each kind of frame, sent by the rules that a program keeps, is a lawful step.

@@ -1,0 +1,144 @@
+-- The frames of a shard's first due entries are legal, and end where nothing is due where they are all of them.
+use Rattle.std.proofs.Common.{◌≡◌, ◌≢◌, ℕ, Bool, true, false, ◌||◌, not, List, [], ◌∷◌, ◌++◌, Option, Some, None, IsTrue, if◌then◌else◌, is_some, refl, sym, ap, subst, ◌∙◌}
+use Rattle.std.specs.Prelude.{IfSome, ◌⊎◌}
+use Rattle.std.specs.List.{AllByRecursion, filter}
+use Rattle.std.specs.Option.{option_or}
+use Rattle.std.proofs.Math.Bool.{or-false}
+use Rattle.vs_base.specs.declared.ShardName.{ShardName}
+use Rattle.vs_base.specs.declared.Gtid.{Gtid}
+use Rattle.vs_base.specs.Names.{same_name, same_gtid}
+use Rattle.vs_base.proofs.NameLemmas.{same_name-refl}
+use Rattle.vs_gtid.specs.declared.Work.{Work}
+use Rattle.vs_gtid.specs.declared.Work.TheVariants.{Rows, Ddl, Other, Journal}
+use Rattle.vs_gtid.specs.declared.Entry.{Entry}
+use Rattle.vs_gtid.specs.Positions.{Position, has, IsSubset, IsCanonical}
+use Rattle.vs_gtid.specs.Joins.{added}
+use Rattle.vs_gtid.specs.Logs.{Log, HaveDistinctGtids, IsStatement}
+use Rattle.vs_gtid.proofs.JoinLemmas.{has-added}
+use Rattle.vs_model.specs.Logs.{Cluster, LogsAreDistinct, log_of, due, stop, own_of, own_journal, journal_of, up_to_own, first_own, IsPositionAfter, is_gtid_of}
+use Rattle.vs_model.specs.Vectors.{Vector, Place, place_of, moved}
+use Rattle.vs_model.specs.Vectors.Place.{Streaming}
+use Rattle.vs_model.specs.Frames.{Frame, last_vector}
+use Rattle.vs_model.specs.Frames.Frame.{Tx, AllCopied}
+use Rattle.vs_model.specs.Copy.{Filter, picked}
+use Rattle.vs_model.specs.Legal.{AllCopiedFollows, NoParticipantStands}
+use Rattle.vs_model.specs.Steps.{SendsTx, Step, Steps}
+use Rattle.vs_command.specs.Sending.{vector_at, position_after, entry_frames, IsCanonicalAlong}
+use Rattle.vs_command.specs.Streaming.{takes_all}
+
+-- what the laws of a legal stream say, as their functions ensure it
+abbrev pub LawOfTransactions : Type 0
+LawOfTransactions = (cluster : Cluster) (rules : Filter) (v w : Vector) (s : ShardName) (told : Entry) → LogsAreDistinct cluster →
+    SendsTx cluster rules v s told w → Step cluster rules v (Tx s told w)
+
+abbrev pub LawOfDue : Type 0
+LawOfDue = (s : ShardName) (log : Log) (p q : Position) (sent rest : List Entry) → HaveDistinctGtids log.entries →
+    due s log p ≡ sent ++ rest → IsPositionAfter p sent q → due s log q ≡ rest
+
+abbrev pub AreStatements : List Entry → Type 0
+AreStatements es = AllByRecursion (λ (e : Entry). IsStatement e.work) es
+
+-- the position with a GTID is the one after its entry
+after_one : (p : Position) (e : Entry) → IsPositionAfter p (e ∷ []) (added p e.gtid)
+after_one p e g = has-added p e.gtid g ∙ ap (λ b. has p g || b) (sym (or-false (same_gtid e.gtid g)))
+
+or_turned : (a b c : Bool) → ((a || b) || c) ≡ (a || (b || c))
+or_turned true b c = refl
+or_turned false b c = refl
+
+pub after_all : (p : Position) (es : List Entry) → IsPositionAfter p es (position_after p es)
+after_all p [] g = sym (or-false (has p g))
+after_all p (e ∷ es) g =
+    after_all (added p e.gtid) es g ∙ ap (λ b. b || is_gtid_of es g) (has-added p e.gtid g) ∙ or_turned (has p g) (same_gtid e.gtid g) (is_gtid_of es g)
+
+-- everything is taken of a statement
+taken : (s : ShardName) (g : Gtid) (t : ℕ) (w : Work) → IsStatement w →
+    ◌≡◌ {A = Entry} (record { gtid = g; time = t; work = w }) (picked (takes_all s) (record { gtid = g; time = t; work = w }))
+taken s g t (Ddl text) h = refl
+taken s g t Other h = refl
+taken s g t (Rows changes) h = absurd h
+taken s g t (Journal j) h = absurd h
+
+not_foreign : (s : ShardName) (v : Vector) (w : Work) → IsStatement w → IfSome (journal_of w) (NoParticipantStands s v)
+not_foreign s v (Ddl text) h = tt
+not_foreign s v Other h = tt
+not_foreign s v (Rows changes) h = absurd h
+not_foreign s v (Journal j) h = absurd h
+
+none_own : (s : ShardName) (w : Work) → IsStatement w → own_of s (journal_of w) ≡ None
+none_own s (Ddl text) h = refl
+none_own s Other h = refl
+none_own s (Rows changes) h = absurd h
+none_own s (Journal j) h = absurd h
+
+stands_at : (s : ShardName) (p : Position) → place_of (vector_at s p) s ≡ Some (Streaming p)
+stands_at s p = ap (λ b. if b then Some (Streaming p) else None) (same_name-refl s)
+
+moved_at : (s : ShardName) (p q : Position) → vector_at s q ≡ moved (vector_at s p) s (Streaming q)
+moved_at s p q = let slot : ShardName × Place = (s, Streaming p) in sym (ap (λ b. if b then (s, Streaming q) ∷ [] else slot ∷ []) (same_name-refl s))
+
+subset_added : (base p : Position) (g : Gtid) → IsSubset base p → IsSubset base (added p g)
+subset_added base p g within x h = subst IsTrue (sym (has-added p g x)) (or_true (has p x) (same_gtid g x) (within x h))
+  where
+    or_true : (a b : Bool) → IsTrue a → IsTrue (a || b)
+    or_true true b h = refl
+    or_true false b h = absurd (cc)
+
+sends : (cluster : Cluster) (s : ShardName) (p : Position) (e : Entry) (rest : List Entry) → IsStatement e.work → due s (log_of cluster s) p ≡ e ∷ rest →
+    IsSubset (log_of cluster s).base p → IsCanonical (added p e.gtid) → SendsTx cluster takes_all (vector_at s p) s e (vector_at s (added p e.gtid))
+sends cluster s p e rest statement first base canonical = record {
+  p = p; e = e; rest = rest; q = added p e.gtid;
+  streams = stands_at s p;
+  first = first;
+  told_is = taken s e.gtid e.time e.work statement;
+  base = base;
+  grown = after_one p e;
+  vector = moved_at s p (added p e.gtid);
+  canonical = (canonical, tt);
+  foreign = not_foreign s (vector_at s p) e.work statement;
+}
+
+pub steps_sent : LawOfTransactions → LawOfDue → (cluster : Cluster) (s : ShardName) → LogsAreDistinct cluster → (p : Position) (sent rest : List Entry) →
+    AreStatements sent → due s (log_of cluster s) p ≡ sent ++ rest → (sent ≡ []) ⊎ IsSubset (log_of cluster s).base p → IsCanonicalAlong p sent →
+    Steps cluster takes_all (vector_at s p) (entry_frames s p sent)
+steps_sent tx due_law cluster s distinct p [] rest statements are base canonical = tt
+steps_sent tx due_law cluster s distinct p (e ∷ es) rest statements are (◌⊎◌.inl none) canonical = absurd (cc)
+steps_sent tx due_law cluster s distinct p (e ∷ es) rest statements are (◌⊎◌.inr base) canonical =
+    (tx cluster takes_all (vector_at s p) (vector_at s (added p e.gtid)) s e distinct (sends cluster s p e (es ++ rest) statements.0 are base canonical.0),
+     steps_sent tx due_law cluster s distinct (added p e.gtid) es rest statements.1
+       (due_law s (log_of cluster s) p (added p e.gtid) (e ∷ []) (es ++ rest) (distinct s) are (after_one p e))
+       (◌⊎◌.inr (subset_added (log_of cluster s).base p e.gtid base)) canonical.1)
+
+-- no copy ends among transactions
+none_copied : (s : ShardName) (p : Position) (sent : List Entry) (before behind : List Frame) → entry_frames s p sent ≡ before ++ AllCopied ∷ behind → ⊥
+none_copied s p [] [] behind h = cc
+none_copied s p [] (b ∷ before) behind h = cc
+none_copied s p (e ∷ es) [] behind h = cc
+none_copied s p (e ∷ es) (b ∷ before) behind h = none_copied s (added p e.gtid) es before behind (let t : entry_frames s (added p e.gtid) es ≡ before ++ AllCopied ∷ behind = cc in t)
+
+pub copies_sent : (s : ShardName) (p : Position) (sent : List Entry) → AllCopiedFollows (entry_frames s p sent)
+copies_sent s p sent before behind h = absurd (none_copied s p sent before behind h)
+
+pub last_sent : (s : ShardName) (p : Position) (sent : List Entry) → last_vector (vector_at s p) (entry_frames s p sent) ≡ vector_at s (position_after p sent)
+last_sent s p [] = refl
+last_sent s p (e ∷ es) = last_sent s (added p e.gtid) es
+
+-- of a log of statements everything is due from the empty position, and nothing stops it
+due_of : (s : ShardName) (es : List Entry) → AreStatements es → up_to_own s (filter (λ e. not (has [] e.gtid)) es) ≡ es
+unfolding has
+due_of s [] h = refl
+due_of s (e ∷ es) h =
+    let rest : List Entry = up_to_own s (filter (λ x. not (has [] x.gtid)) es) in
+    ap (λ o. if is_some o then [] else e ∷ rest) (none_own s e.work h.0) ∙ ap (λ l. e ∷ l) (due_of s es h.1)
+
+stop_of : (s : ShardName) (es : List Entry) → AreStatements es → first_own s (filter (λ e. not (has [] e.gtid)) es) ≡ None
+unfolding has
+stop_of s [] h = refl
+stop_of s (e ∷ es) h =
+    ap (λ o. option_or o (first_own s (filter (λ x. not (has [] x.gtid)) es))) (none_own s e.work h.0) ∙ stop_of s es h.1
+
+pub due_all : (s : ShardName) (log : Log) → AreStatements log.entries → due s log [] ≡ log.entries
+due_all s log h = due_of s log.entries h
+
+pub stop_none : (s : ShardName) (log : Log) → AreStatements log.entries → stop s log [] ≡ None
+stop_none s log h = stop_of s log.entries h

@@ -1,0 +1,115 @@
+-- The frames of one entry more, and what was written of them.
+use Rattle.std.proofs.Common.{◌≡◌, ◌≢◌, ℕ, suc, ◌+◌, ◌<◌, length, take, drop, get_or, List, [], ◌∷◌, ◌++◌, Option, Some, None, Ok, Err, refl, sym, ap, subst, ◌∙◌, append_assoc, append-nil}
+use Rattle.std.proofs.lemmas.List.{take_more, take-append-drop}
+use Rattle.std.proofs.Math.Seq.{drop-cons}
+use Rattle.std.specs.Option.{option_map, option_and_then}
+use Rattle.vs_base.specs.declared.ShardName.{ShardName}
+use Rattle.vs_gtid.specs.declared.Entry.{Entry}
+use Rattle.vs_gtid.specs.Positions.{Position, IsCanonical}
+use Rattle.vs_gtid.specs.Joins.{added}
+use Rattle.vs_outside.specs.Told.{IsPrefixOf, Writes}
+use Rattle.vs_outside.proofs.ToldLemmas.{Writes-then, IsPrefixOf-refl, IsPrefixOf-behind}
+use Rattle.vs_model.specs.Frames.{Frame}
+use Rattle.vs_command.specs.declared.sending.SendEnd.{SendEnd}
+use Rattle.vs_command.specs.declared.sending.SendEnd.TheVariants.{Memory, LinkFault, PositionTooLarge}
+use Rattle.vs_command.specs.Spelling.{frame_bytes, frames_bytes}
+use Rattle.vs_command.specs.Sending.{AreSent, AreSpelled, IsCanonicalAlong, IsSent, next_frame, position_after, entry_frames}
+
+-- the bytes of the first frame, and of the others
+record IsParted (f : Frame) (fs : List Frame) (bytes : List ℕ) : Type 0 where
+  pub first : List ℕ
+  pub more : List ℕ
+  pub is_first : frame_bytes f ≡ Some first
+  pub is_more : frames_bytes fs ≡ Some more
+  pub is : bytes ≡ first ++ more
+
+frames_bytes-parted : (f : Frame) (fs : List Frame) (bytes : List ℕ) → frames_bytes (f ∷ fs) ≡ Some bytes → IsParted f fs bytes
+frames_bytes-parted f fs bytes h = go (frame_bytes f) (frames_bytes fs) refl refl h
+  where
+    go : (first more : Option (List ℕ)) → frame_bytes f ≡ first → frames_bytes fs ≡ more →
+        option_and_then (λ b. option_map (λ m. b ++ m) more) first ≡ Some bytes → IsParted f fs bytes
+    go None more p q e = absurd (cc)
+    go (Some b) None p q e = absurd (cc)
+    go (Some b) (Some m) p q e = record { first = b; more = m; is_first = p; is_more = q; is = cc }
+
+frames_bytes-cons : (f : Frame) (fs : List Frame) (first more : List ℕ) → frame_bytes f ≡ Some first → frames_bytes fs ≡ Some more →
+    frames_bytes (f ∷ fs) ≡ Some (first ++ more)
+frames_bytes-cons f fs first more p q =
+    ap (λ o. option_and_then (λ b. option_map (λ m. b ++ m) (frames_bytes fs)) o) p ∙ ap (λ o. option_map (λ m. first ++ m) o) q
+
+pub AreSpelled-more : (s : ShardName) (p : Position) (xs : List Entry) (e : Entry) (a b : List ℕ) →
+    AreSpelled s p xs a → frame_bytes (next_frame s (position_after p xs) e) ≡ Some b → AreSpelled s p (xs ++ e ∷ []) (a ++ b)
+AreSpelled-more s p [] e a b spelled next =
+    let empty : a ≡ [] = cc in
+    frames_bytes-cons (next_frame s p e) [] b [] next refl ∙ ap (λ l. Some l) (append-nil b ∙ ap (λ l. l ++ b) (sym empty))
+AreSpelled-more s p (x ∷ xs) e a b spelled next =
+    let parts = frames_bytes-parted (next_frame s p x) (entry_frames s (added p x.gtid) xs) a spelled in
+    frames_bytes-cons (next_frame s p x) (entry_frames s (added p x.gtid) (xs ++ e ∷ [])) parts.first (parts.more ++ b) parts.is_first
+    (AreSpelled-more s (added p x.gtid) xs e parts.more b parts.is_more next)
+    ∙ ap (λ l. Some l) (sym (append_assoc parts.first parts.more b) ∙ ap (λ l. l ++ b) (sym parts.is))
+
+pub position_after-more : (p : Position) (xs : List Entry) (e : Entry) → position_after p (xs ++ e ∷ []) ≡ added (position_after p xs) e.gtid
+position_after-more p [] e = refl
+position_after-more p (x ∷ xs) e = position_after-more (added p x.gtid) xs e
+
+pub IsCanonicalAlong-more : (p : Position) (xs : List Entry) (e : Entry) → IsCanonicalAlong p xs → IsCanonical (added (position_after p xs) e.gtid) → IsCanonicalAlong p (xs ++ e ∷ [])
+IsCanonicalAlong-more p [] e along next = (next, tt)
+IsCanonicalAlong-more p (x ∷ xs) e along next = (along.0, IsCanonicalAlong-more (added p x.gtid) xs e along.1 next)
+
+-- the frames of the first entries were written
+abbrev pub WroteFirst : ShardName → Position → List Entry → List ℕ → Type 0
+WroteFirst s p xs w = AreSpelled s p xs w × IsCanonicalAlong p xs
+
+-- a frame was written behind those of the first entries
+pub Writes-frame : (s : ShardName) (p q : Position) (xs : List Entry) (e : Entry) (before between now : Option (List ℕ)) →
+    q ≡ position_after p xs → Writes before between (WroteFirst s p xs) → Writes between now (IsSent s q e (Ok tt)) →
+    Writes before now (WroteFirst s p (xs ++ e ∷ []))
+Writes-frame s p q xs e before between now at first second =
+    Writes-then (WroteFirst s p xs) (IsSent s q e (Ok tt)) (WroteFirst s p (xs ++ e ∷ [])) before between now
+    (λ v w wrote sent.
+      let next : IsSent s (position_after p xs) e (Ok tt) w = subst (λ r. IsSent s r e (Ok tt) w) at sent in
+      (AreSpelled-more s p xs e v w wrote.0 next.0, IsCanonicalAlong-more p xs e wrote.1 next.1)) first second
+
+-- no frame was written behind those of the first entries
+cut_before : (s : ShardName) (p : Position) (xs rest : List Entry) (end : SendEnd) (before between now : Option (List ℕ)) →
+    Writes before between (WroteFirst s p xs) → Writes between now (λ w. w ≡ []) → (end ≢ LinkFault) →
+    Writes before now (λ w. AreSent s p (xs ++ rest) (Err end) w)
+cut_before s p xs rest end before between now first second other =
+    Writes-then (WroteFirst s p xs) (λ w. w ≡ []) (λ w. AreSent s p (xs ++ rest) (Err end) w) before between now
+    (λ v w wrote none. record {
+      sent = xs; rest = rest; are = refl; bytes = v; spelled = wrote.0; canonical = wrote.1;
+      prefix = subst (λ l. IsPrefixOf l v) (sym (ap (λ l. v ++ l) none ∙ append-nil v)) (IsPrefixOf-refl v);
+      whole = λ _. ap (λ l. v ++ l) none ∙ append-nil v;
+      all = tt;
+    }) first second
+
+-- a beginning of a frame was written behind those of the first entries
+cut_within : (s : ShardName) (p q : Position) (xs rest : List Entry) (e : Entry) (before between now : Option (List ℕ)) →
+    q ≡ position_after p xs → Writes before between (WroteFirst s p xs) → Writes between now (λ w. IsSent s q e (Err LinkFault) w) →
+    Writes before now (λ w. AreSent s p (xs ++ e ∷ rest) (Err LinkFault) w)
+cut_within s p q xs rest e before between now at first second =
+    Writes-then (WroteFirst s p xs) (λ w. IsSent s q e (Err LinkFault) w) (λ w. AreSent s p (xs ++ e ∷ rest) (Err LinkFault) w) before between now
+    (λ v w wrote sent.
+      let cut : IsSent s (position_after p xs) e (Err LinkFault) w = subst (λ r. IsSent s r e (Err LinkFault) w) at sent in record {
+      sent = xs ++ e ∷ []; rest = rest; are = sym (append_assoc xs (e ∷ []) rest); bytes = v ++ cut.0;
+      spelled = AreSpelled-more s p xs e v cut.0 wrote.0 cut.1;
+      canonical = IsCanonicalAlong-more p xs e wrote.1 cut.3;
+      prefix = IsPrefixOf-behind v w cut.0 cut.2;
+      whole = λ other. absurd (other refl);
+      all = tt;
+    }) first second
+
+-- what was written where the next entry was not sent
+pub Writes-cut_entry : (s : ShardName) (p q : Position) (xs rest : List Entry) (e : Entry) (end : SendEnd) (before between now : Option (List ℕ)) →
+    q ≡ position_after p xs → Writes before between (WroteFirst s p xs) → Writes between now (λ w. IsSent s q e (Err end) w) →
+    Writes before now (λ w. AreSent s p (xs ++ e ∷ rest) (Err end) w)
+Writes-cut_entry s p q xs rest e LinkFault before between now at first second = cut_within s p q xs rest e before between now at first second
+Writes-cut_entry s p q xs rest e Memory before between now at first second = cut_before s p xs (e ∷ rest) Memory before between now first second (λ h. cc)
+Writes-cut_entry s p q xs rest e PositionTooLarge before between now at first second = cut_before s p xs (e ∷ rest) PositionTooLarge before between now first second (λ h. cc)
+
+-- the entries are the first ones, the next one, and the rest
+pub split_at : (entries : List Entry) (i : ℕ) (e : Entry) → i < length entries → e ≡ get_or entries i e → entries ≡ take i entries ++ e ∷ drop (suc i) entries
+split_at entries i e inside is = sym (take-append-drop i entries) ∙ ap (λ l. take i entries ++ l) (drop-cons entries i e inside ∙ ap (λ x. x ∷ drop (suc i) entries) (sym is))
+
+pub take_next : (entries : List Entry) (i : ℕ) (e : Entry) → i < length entries → e ≡ get_or entries i e → take (i + 1) entries ≡ take i entries ++ e ∷ []
+take_next entries i e inside is = take_more entries i e inside ∙ ap (λ x. take i entries ++ x ∷ []) (sym is)

@@ -1,0 +1,4 @@
+pub mod Spelling
+pub mod Line
+pub mod Sending
+pub mod Streaming

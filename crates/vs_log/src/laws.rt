@@ -1,0 +1,32 @@
+ghost use Rattle.std.specs.Prelude.{List as Items, ℕ};
+ghost use Rattle.vs_log.specs.Laws.{Grows, HasNewGtids, IsOfWholeLog, MeansByProductions, TakesBeginnings};
+ghost use Rattle.vs_log.specs.Meaning.{log_meant};
+ghost use Rattle.vs_log.specs.Table.{Rules};
+
+/// The table takes an event where, and only where, the beginning of a log goes on with it.
+#[tactic(auto, using(crate::proofs::Beginnings::takes_beginnings))]
+pub fn law_beginnings()
+    ensures { (rules : Rules) → TakesBeginnings rules }
+{}
+
+/// Each list of bytes means one log by the productions: the one that the table gives.
+pub fn law_meaning()
+    ensures { (rules : Rules) (bytes : Items ℕ) → MeansByProductions rules bytes }
+{}
+
+/// With more bytes entries come behind those that stood, and a fault stays.
+pub fn law_growth()
+    ensures { (rules : Rules) (bytes more : Items ℕ) → Grows rules bytes more }
+{}
+
+/// The base and the entries are those of the longest front of the bytes that is a whole log.
+/// Where no front is one, there are none.
+pub fn law_longest()
+    ensures { (rules : Rules) (bytes : Items ℕ) → IsOfWholeLog rules bytes }
+{}
+
+/// No GTID of a log stands twice, or lies in its base.
+#[tactic(auto, using(crate::proofs::Distinct::new_gtids))]
+pub fn law_distinct()
+    ensures { (rules : Rules) (bytes : Items ℕ) → HasNewGtids (log_meant rules bytes) }
+{}

@@ -1,0 +1,10 @@
+use crate::{law_beginnings, law_distinct, law_growth, law_longest, law_meaning};
+
+#[test]
+fn laws_are_called() {
+    law_beginnings();
+    law_meaning();
+    law_growth();
+    law_longest();
+    law_distinct();
+}

@@ -1,0 +1,11 @@
+mod Lists
+mod Entries
+mod Places
+mod Sent
+mod OneStep
+mod Runs
+mod Examples
+mod Resumed
+mod Comes
+mod Stays
+mod Final

@@ -1,0 +1,7 @@
+pub mod ToldLemmas
+pub mod CountLemmas
+pub mod TimeLemmas
+pub mod MemoryLemmas
+pub mod OpeningLemmas
+pub mod ListingLemmas
+pub mod PlaceLemmas

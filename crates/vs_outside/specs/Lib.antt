@@ -1,0 +1,9 @@
+pub mod Counts
+pub mod Told
+pub mod Names
+pub mod Clusters
+pub mod Reads
+pub mod Times
+pub mod Scripts
+pub mod Memory
+pub mod Openings

@@ -1,0 +1,4 @@
+pub mod VarintLemmas
+pub mod GroupLemmas
+pub mod FieldLemmas
+pub mod SpellingLemmas
