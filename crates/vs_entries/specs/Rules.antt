@@ -12,9 +12,9 @@ use Rattle.vs_log.specs.Queries.{statement_of}
 use Rattle.vs_log.specs.Table.{Rules}
 
 -- the statement, unless it begins a transaction of rows
-abbrev pub built_statement : Result Statement Why → Result Statement Why
-built_statement (Ok Begin) = Err NotBuilt
-built_statement statement = statement
+abbrev pub unless_begin : Result Statement Why → Result Statement Why
+unless_begin (Ok Begin) = Err NotBuilt
+unless_begin statement = statement
 
 -- the set that was read, or what the refusal of its body says of the event
 abbrev pub base_of : Result Position GtidRefusal → Result Position Why
@@ -25,7 +25,7 @@ base_of (Err other) = Err (BadEvent 35)
 -- how the log of a shard of the keyspace is read
 abbrev pub rules_of : List ℕ → Rules
 rules_of keyspace = record {
-  statement = λ body. built_statement (statement_of keyspace body);
+  statement = λ body. unless_begin (statement_of keyspace body);
   block = λ body. base_of (block_of body);
   map = λ body. Some NotBuilt;
   rows = λ maps kind body. Err NotBuilt;
