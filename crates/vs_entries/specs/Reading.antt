@@ -14,7 +14,8 @@ use Rattle.vs_log.specs.declared.state.State.{State}
 use Rattle.vs_log.specs.Events.{Event, body_of, length_of, is_held, last_place}
 use Rattle.vs_log.specs.Table.{Rules, step, with_base, new_gtid, named, ended, ◌>>=◌}
 use Rattle.vs_log.specs.Queries.{statement_of}
-use Rattle.vs_entries.specs.Rules.{block_in}
+use Rattle.vs_gtid.specs.Block.{block_of}
+use Rattle.vs_entries.specs.Rules.{base_of}
 use Rattle.vs_log.specs.Meaning.{head_refusal}
 use Rattle.vs_entries.specs.declared.log.LogFault.{LogFault}
 use Rattle.vs_entries.specs.declared.log.LogRead.{LogRead}
@@ -66,7 +67,7 @@ single_of (Err why) = Err why
 
 -- the log with the base that a PREVIOUS_GTIDS event tells
 abbrev pub with_previous : State → Event → Result State Why
-with_previous s e = block_in (body_of e) >>= λ set. Ok (with_base s set)
+with_previous s e = base_of (block_of (body_of e)) >>= λ set. Ok (with_base s set)
 
 -- the log with an entry that a GTID event begins
 abbrev pub with_gtid : State → Event → Result State Why

@@ -1,31 +1,32 @@
 -- What this release reads of a shard's log: single statements. A transaction of rows is refused at its BEGIN as not built.
-use Rattle.std.specs.Prelude.{ℕ, ◌==◌, nat_lt, if◌then◌else◌, List, [], length, Some, Result, Ok, Err}
-use Rattle.byteorder.specs.Endian.{little_number}
+use Rattle.std.specs.Prelude.{ℕ, List, Some, Result, Ok, Err}
 use Rattle.vs_base.specs.declared.Why.{Why}
-use Rattle.vs_base.specs.declared.Why.TheVariants.{BadEvent, NotBuilt}
+use Rattle.vs_base.specs.declared.Why.TheVariants.{BadEvent, NotBuilt, TooManyIntervals}
+use Rattle.vs_gtid.specs.declared.refusal.GtidRefusal.{GtidRefusal}
+use Rattle.vs_gtid.specs.declared.refusal.GtidRefusal.TheVariants as refusal
+use Rattle.vs_gtid.specs.Block.{block_of}
 use Rattle.vs_gtid.specs.Positions.{Position}
 use Rattle.vs_log.specs.declared.state.Statement.{Statement}
 use Rattle.vs_log.specs.declared.state.Statement.TheVariants.{Begin}
 use Rattle.vs_log.specs.Queries.{statement_of}
 use Rattle.vs_log.specs.Table.{Rules}
 
--- a statement, where it is read
+-- the statement, unless it begins a transaction of rows
 abbrev pub unless_begin : Result Statement Why → Result Statement Why
 unless_begin (Ok Begin) = Err NotBuilt
 unless_begin statement = statement
 
--- The base in the body of a PREVIOUS_GTIDS event: a count of UUIDs, and what stands behind it. Only an empty one is read.
-abbrev pub block_in : List ℕ → Result Position Why
-block_in body =
-    if nat_lt (length body) 8 then Err (BadEvent 35)
-    else if little_number 8 body == 0 then Ok []
-    else Err NotBuilt
+-- the set that was read, or what the refusal of its body says of the event
+abbrev pub base_of : Result Position GtidRefusal → Result Position Why
+base_of (Ok set) = Ok set
+base_of (Err refusal.TooManyIntervals) = Err TooManyIntervals
+base_of (Err other) = Err (BadEvent 35)
 
 -- how the log of a shard of the keyspace is read
 abbrev pub rules_of : List ℕ → Rules
 rules_of keyspace = record {
   statement = λ body. unless_begin (statement_of keyspace body);
-  block = block_in;
+  block = λ body. base_of (block_of body);
   map = λ body. Some NotBuilt;
   rows = λ maps kind body. Err NotBuilt;
 }

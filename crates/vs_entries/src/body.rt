@@ -1,13 +1,14 @@
 ghost use Rattle.std.specs.Prelude.{◌≡◌};
+ghost use Rattle.vs_gtid.specs.Block.{block_of};
 ghost use Rattle.vs_log.specs.Table.{format_refusal, gtid_in};
 ghost use Rattle.vs_entries.specs.Reading.{Answers};
-ghost use Rattle.vs_entries.specs.Rules.{block_in};
+ghost use Rattle.vs_entries.specs.Rules.{base_of};
 
 use crate::refusal::Refusal;
 use byteorder::{ByteOrder, LittleEndian};
 use std::alloc::Global;
 use vs_base::{Gtid, Why};
-use vs_gtid::GtidSet;
+use vs_gtid::{GtidRefusal, GtidSet};
 
 /// What is wrong with the body of a format description.
 pub fn format_fault(body: &[u8]) -> Option<Why>
@@ -47,14 +48,13 @@ pub fn read_gtid(body: &[u8]) -> Result<Gtid, Why>
 }
 
 /// The base in the body of a PREVIOUS_GTIDS event.
-pub fn read_block(alloc: Global, body: &[u8]) -> Result<GtidSet, Refusal>
-    ensures { Answers result (block_in body.now) }
+pub fn read_base(alloc: Global, body: &[u8]) -> Result<GtidSet, Refusal>
+    ensures { Answers result (base_of (block_of body.now)) }
 {
-    if body.len() < 8 {
-        return Err(Refusal::Wrong(Why::BadEvent { kind: 35 }));
+    match GtidSet::from_block(alloc, body) {
+        Ok(base) => Ok(base),
+        Err(GtidRefusal::TooManyIntervals) => Err(Refusal::Wrong(Why::TooManyIntervals)),
+        Err(GtidRefusal::Memory) => Err(Refusal::Memory),
+        Err(_) => Err(Refusal::Wrong(Why::BadEvent { kind: 35 })),
     }
-    if LittleEndian::read_u64(body) != 0 {
-        return Err(Refusal::Wrong(Why::NotBuilt));
-    }
-    Ok(GtidSet::new(alloc))
 }

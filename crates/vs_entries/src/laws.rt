@@ -8,5 +8,4 @@ ghost use Rattle.vs_entries.specs.Rules.{rules_of};
 /// Each entry that is read is a single statement.
 pub fn law_statements()
     ensures { (keyspace bytes : Items ℕ) → AllByRecursion (λ (e : Entry). IsStatement e.work) (log_meant (rules_of keyspace) bytes).entries }
-{
-}
+{}

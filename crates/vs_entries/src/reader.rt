@@ -4,7 +4,7 @@ ghost use Rattle.vs_log.specs.Meaning.{front, head_refusal, log_of};
 ghost use Rattle.vs_log.specs.Table.{bytes_with, line, size, step};
 ghost use Rattle.vs_entries.specs.Reading.{IsFrontEvent};
 
-use crate::body::{format_fault, read_block, read_gtid};
+use crate::body::{format_fault, read_base, read_gtid};
 use crate::event::{HEAD, kind, sort_in, time, total_length};
 use crate::log::{LogFault, LogRead};
 use crate::query::read_work;
@@ -257,7 +257,7 @@ impl Reader {
         requires { 19 ≤ length event.now }
         ensures { Takes result self.old self.new (with_previous (state_of self.old) event.now) }
     {
-        let base = read_block(alloc, &event[HEAD..])?;
+        let base = read_base(alloc, &event[HEAD..])?;
         let known = base.copy(alloc)?;
         self.base = base;
         self.known = known;

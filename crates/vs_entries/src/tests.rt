@@ -4,31 +4,31 @@ use std::test::Fail;
 use vs_base::Why;
 use vs_gtid::Work;
 
+/// An event of these flags and this body.
 fn put_event(
     log: &mut Vec<u8>,
     time: u32,
     kind: u8,
-    flags: u16,
+    flags: u8,
     body: &[u8],
 ) -> Result<(), AllocError> {
-    let length = (19 + body.len() % 65_536) as u32;
-    log.extend_from_slice(&time.to_le_bytes())?;
-    log.extend_from_slice(&[kind])?;
-    log.extend_from_slice(&[0; 4])?;
-    log.extend_from_slice(&length.to_le_bytes())?;
-    log.extend_from_slice(&[0; 4])?;
-    log.extend_from_slice(&flags.to_le_bytes())?;
+    let mut head = [0; 19];
+    head[..4].copy_from_slice(&time.to_le_bytes());
+    head[4] = kind;
+    head[9..13].copy_from_slice(&((19 + body.len() % 65_536) as u32).to_le_bytes());
+    head[17] = flags;
+    log.extend_from_slice(&head)?;
     log.extend_from_slice(body)
 }
 
-/// The magic, a format description of version 4 without checksums, and an empty PREVIOUS_GTIDS.
-fn put_front(log: &mut Vec<u8>) -> Result<(), AllocError> {
+/// The magic, a format description of version 4 without checksums, and PREVIOUS_GTIDS.
+fn put_front(log: &mut Vec<u8>, previous: &[u8]) -> Result<(), AllocError> {
     let mut format = [0; 62];
     format[0] = 4;
     format[56] = 19;
     log.extend_from_slice(&[0xfe, 0x62, 0x69, 0x6e])?;
     put_event(log, 1, 15, 0, &format)?;
-    put_event(log, 2, 35, 0x80, &[0; 8])
+    put_event(log, 2, 35, 0x80, previous)
 }
 
 /// A GTID event of the UUID `00000000-0000-0000-0000-000000000001`.
@@ -46,12 +46,10 @@ fn put_query(
     text: &[u8],
     alloc: Global,
 ) -> Result<(), AllocError> {
-    let mut body = Vec::new(alloc);
-    body.extend_from_slice(&[0; 8])?;
-    body.extend_from_slice(&[(schema.len() % 256) as u8])?;
-    body.extend_from_slice(&[0; 4])?;
+    let mut body = Vec::from_slice(alloc, &[0; 13])?;
+    body[8] = (schema.len() % 256) as u8;
     body.extend_from_slice(schema)?;
-    body.extend_from_slice(&[0])?;
+    body.push(0)?;
     body.extend_from_slice(text)?;
     put_event(log, time, 2, 0, body.as_slice())
 }
@@ -59,7 +57,7 @@ fn put_query(
 /// Two statements, at the times 100 and 101.
 fn two_drops(alloc: Global) -> Result<Vec<u8>, AllocError> {
     let mut log = Vec::new(alloc);
-    put_front(&mut log)?;
+    put_front(&mut log, &[0; 8])?;
     put_gtid(&mut log, 99, 1)?;
     put_query(&mut log, 100, b"vt_c", b"drop table t", alloc)?;
     put_gtid(&mut log, 100, 2)?;
@@ -70,7 +68,7 @@ fn two_drops(alloc: Global) -> Result<Vec<u8>, AllocError> {
 /// A log of one statement.
 fn one_statement(alloc: Global, schema: &[u8], text: &[u8]) -> Result<LogRead, AllocError> {
     let mut log = Vec::new(alloc);
-    put_front(&mut log)?;
+    put_front(&mut log, &[0; 8])?;
     put_gtid(&mut log, 100, 1)?;
     put_query(&mut log, 100, schema, text, alloc)?;
     read_log(alloc, log.as_slice(), b"c")
@@ -100,7 +98,7 @@ fn reads_two_statements(rt: HostRuntime) -> Result<(), Fail> {
 fn tells_a_head_that_is_too_short(rt: HostRuntime) -> Result<(), Fail> {
     let alloc = rt.alloc();
     let mut log = Vec::new(alloc);
-    put_front(&mut log)?;
+    put_front(&mut log, &[0; 8])?;
     put_gtid(&mut log, 100, 1)?;
     put_query(&mut log, 100, b"vt_c", b"drop table t", alloc)?;
     log.extend_from_slice(&[0, 0, 0, 0, 2, 0, 0, 0, 0, 18, 0, 0, 0, 0, 0, 0, 0, 0, 0])?;
@@ -155,19 +153,32 @@ fn tells_statements_apart(rt: HostRuntime) -> Result<(), Fail> {
     Ok(())
 }
 
+/// The body of a PREVIOUS_GTIDS event of the numbers 1 to 5.
+const FIRST_FIVE: [u8; 48] = [
+    1, 0, 0, 0, 0, 0, 0, 0, 0, 0, 0, 0, 0, 0, 0, 0, 0, 0, 0, 0, 0, 0, 0, 1, 1, 0, 0, 0, 0, 0, 0, 0,
+    1, 0, 0, 0, 0, 0, 0, 0, 6, 0, 0, 0, 0, 0, 0, 0,
+];
+
 #[test]
-fn tells_what_is_wrong(rt: HostRuntime) -> Result<(), Fail> {
+fn refuses_a_gtid_of_the_base(rt: HostRuntime) -> Result<(), Fail> {
     let alloc = rt.alloc();
     let mut log = Vec::new(alloc);
-    put_front(&mut log)?;
-    put_gtid(&mut log, 100, 1)?;
+    put_front(&mut log, &FIRST_FIVE)?;
+    put_gtid(&mut log, 100, 6)?;
     put_query(&mut log, 100, b"vt_c", b"drop table t", alloc)?;
-    put_gtid(&mut log, 100, 1)?;
+    put_gtid(&mut log, 101, 5)?;
     let read = read_log(alloc, log.as_slice(), b"c")?;
+    assert_eq!(rt; read.base.intervals(), 1);
+    assert_eq!(rt; read.entries.as_slice().len(), 1);
     let fault = read.fault.expect(&rt, "a fault");
-    assert_eq!(rt; fault.offset, 205);
-    assert!(rt; matches!(fault.why, Why::RepeatedGtid { gtid } if gtid.number == 1));
-    let read = read_log(alloc, b"\xfebix", b"c")?;
+    assert_eq!(rt; fault.offset, 245);
+    assert!(rt; matches!(fault.why, Why::RepeatedGtid { gtid } if gtid.number == 5));
+    Ok(())
+}
+
+#[test]
+fn refuses_another_magic(rt: HostRuntime) -> Result<(), Fail> {
+    let read = read_log(rt.alloc(), b"\xfebix", b"c")?;
     let fault = read.fault.expect(&rt, "a fault");
     assert_eq!(rt; fault.offset, 0);
     assert_eq!(rt; fault.why, Why::BadMagic);

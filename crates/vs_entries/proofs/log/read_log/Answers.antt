@@ -1,4 +1,4 @@
-use Rattle.std.proofs.Common.{◌≡◌, ap, sym, ◌∙◌, arith}
+use Rattle.std.proofs.Common.{ap, sym, ◌∙◌, arith}
 use Rattle.std.specs.Prelude.{Some, None}
 use Rattle.vs_base.specs.declared.Why.TheVariants.{BadMagic}
 use Rattle.vs_log.specs.Meaning.{log_of}

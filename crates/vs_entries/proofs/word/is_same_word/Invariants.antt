@@ -1,4 +1,4 @@
-use Rattle.std.proofs.Common.{◌≡◌, ◌≤◌, length, drop, map, nat_eq}
+use Rattle.std.proofs.Common.{◌≡◌, length, drop, map, nat_eq}
 use Rattle.std.specs.Cmp.Lexicographic.{pointwise}
 use Rattle.vs_log.specs.Queries.{upper}
 use Rattle.vs_entries.proofs.word.is_same_word.Given as goal
