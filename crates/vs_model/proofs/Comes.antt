@@ -1,6 +1,7 @@
 -- What stands in a vector has come from a reached start, by the first entries that were due there.
-use Rattle.std.proofs.Common.{◌≡◌, ℕ, Bool, true, false, ◌||◌, List, [], ◌∷◌, ◌++◌, take, drop, take-append-drop, Option, Some, None, is_some, refl, ap, sym, ◌∙◌, subst, ⊎_elim, true≢false}
+use Rattle.std.proofs.Common.{◌≡◌, ℕ, List, [], ◌∷◌, ◌++◌, take, drop, take-append-drop, Option, Some, None, is_some, refl, ap, sym, ◌∙◌, subst, ⊎_elim, true≢false}
 use Rattle.std.proofs.lemmas.Bool.{cases_Bool}
+use Rattle.std.proofs.Math.Bool.{or-false}
 use Rattle.vs_base.specs.declared.ShardName.{ShardName}
 use Rattle.vs_base.specs.declared.LastKey.{LastKey}
 use Rattle.vs_base.proofs.NameLemmas.{same_name-is, same_name-refl}
@@ -31,10 +32,6 @@ module _ (cluster : Cluster) (v0 : Vector) (s : ShardName) where
     pub split : due s (log_of cluster s) start ≡ sent ++ rest
     pub grown : IsPositionAfter start sent q
 
-  open_up : (b : Bool) → b ≡ (b || false)
-  open_up true = refl
-  open_up false = refl
-
   -- it comes to its start
   pub at_start : (p : Position) → Reached cluster v0 s p → ComesTo p
   at_start p reached = record {
@@ -43,7 +40,7 @@ module _ (cluster : Cluster) (v0 : Vector) (s : ShardName) where
     sent = [];
     rest = due s (log_of cluster s) p;
     split = refl;
-    grown = λ g. open_up (has p g);
+    grown = λ g. sym (or-false (has p g));
   }
 
   -- and on, by the first entries that are due

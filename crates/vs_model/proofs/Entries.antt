@@ -3,6 +3,7 @@ use Rattle.std.proofs.Common.{◌≡◌, Bool, true, false, not, cond, ◌||◌,
 use Rattle.std.specs.List.{list_any}
 use Rattle.std.specs.Option.{option_or}
 use Rattle.std.proofs.lemmas.List.Elements.{filter_agree}
+use Rattle.std.proofs.Math.Bool.{or_assoc}
 use Rattle.vs_base.specs.declared.ShardName.{ShardName}
 use Rattle.vs_base.specs.declared.Gtid.{Gtid}
 use Rattle.vs_base.proofs.NameLemmas.{same_gtid-refl}
@@ -76,10 +77,6 @@ module _ (s : ShardName) (log : Log) (p q : Position) (sent rest : List Entry) (
 
   pub stop-sent : stop s log q ≡ stop s log p
   stop-sent = ap (first_own s) (after-sent log p q sent grown) ∙ goes_on.1
-
-or_assoc : (a b c : Bool) → ((a || b) || c) ≡ (a || (b || c))
-or_assoc true b c = refl
-or_assoc false b c = refl
 
 is_gtid_of-append : (xs ys : List Entry) (g : Gtid) → is_gtid_of (xs ++ ys) g ≡ (is_gtid_of xs g || is_gtid_of ys g)
 is_gtid_of-append [] ys g = refl

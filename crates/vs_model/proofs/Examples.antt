@@ -1,49 +1,45 @@
 -- What the definitions accept and refuse, at small values.
-use Rattle.std.proofs.Common.{◌≡◌, ℕ, zero, suc, ◌+◌, ◌<◌, ◌≤◌, ◌-◌, ◌^◌, true, List, [], ◌∷◌, length, map, Option, Some, None, pos, slice_index, nat_lt, nat_cmp, is_eq, if◌then◌else◌, refl, ap, subst, true≢false, ⊎_elim, inr, arith}
+use Rattle.std.proofs.Common.{◌≡◌, ℕ, zero, suc, ◌+◌, ◌<◌, ◌≤◌, ◌-◌, ◌^◌, true, List, [], ◌∷◌, length, map, Some, None, pos, slice_index, is_eq, refl, ap, subst, true≢false, ⊎_elim, inr, arith}
 use Rattle.std.specs.List.{AllByRecursion}
 use Rattle.vs_base.specs.Names.{names_differ, same_name}
 use Rattle.vs_base.specs.declared.ShardName.{ShardName}
-use Rattle.vs_base.specs.declared.Cell.TheVariants.{Bytes}
-use Rattle.vs_base.specs.declared.Change.{Change}
-use Rattle.vs_base.specs.declared.LastKey.{LastKey}
 use Rattle.vs_gtid.specs.Positions.{Position, IsInterval, IsCanonical, has}
 use Rattle.vs_gtid.specs.declared.interval.Interval.{Interval}
 use Rattle.vs_gtid.specs.declared.Successor.{Successor}
 use Rattle.vs_gtid.specs.declared.JournalValue.{JournalValue}
 use Rattle.vs_gtid.specs.declared.Work.{Work}
-use Rattle.vs_gtid.specs.declared.Work.TheVariants.{Rows, Ddl, Journal}
+use Rattle.vs_gtid.specs.declared.Work.TheVariants.{Ddl, Journal}
 use Rattle.vs_gtid.specs.declared.Entry.{Entry}
-use Rattle.vs_model.specs.Logs.{Image, Log, due, stop, between}
+use Rattle.vs_model.specs.Logs.{Log, due, stop, between}
 use Rattle.vs_model.specs.Vectors.{Vector, switched}
 use Rattle.vs_model.specs.Vectors.Place.{Streaming}
 use Rattle.vs_model.specs.Legal.{HasGathered}
-use Rattle.vs_model.specs.Copy.{Bound, picked_change, change_within, changes_in, front, next_rows, within_limits}
 use Rattle.vs_model.specs.Requests.{asked}
 use Rattle.vs_model.specs.Requests.Wanted.{OneShard, AllShards}
 use Rattle.vs_model.specs.Requests.StartAt.{From, FromEnd}
 use Rattle.vs_model.proofs.Lists.{cons_is_not_nil}
 use Rattle.vs_model.proofs.Places.{same_position}
 
-one_fits : (n : ℕ) → length (n ∷ []) ≤ 64
+pub one_fits : (n : ℕ) → length (n ∷ []) ≤ 64
 one_fits n = omega arith
 
 -- keyspaces, shards and servers are numbered
 abbrev shard : ℕ → ℕ → ShardName
 shard keyspace n = record { keyspace = keyspace ∷ []; shard = n ∷ []; keyspace_fits = one_fits keyspace; shard_fits = one_fits n }
 
-abbrev server : ℕ → List ℕ
+abbrev pub server : ℕ → List ℕ
 server n = 0 ∷ 0 ∷ 0 ∷ 0 ∷ 0 ∷ 0 ∷ 0 ∷ 0 ∷ 0 ∷ 0 ∷ 0 ∷ 0 ∷ 0 ∷ 0 ∷ 0 ∷ n ∷ []
 
 abbrev interval : ℕ → ℕ → ℕ → Interval
 interval s a b = record { uuid = server s; first = a; last = b }
 
-abbrev up_to : ℕ → ℕ → Position
+abbrev pub up_to : ℕ → ℕ → Position
 up_to s n = interval s 1 n ∷ []
 
-abbrev entry : (n : ℕ) → 1 ≤ n → n ≤ 2 ^ 63 - 2 → Work → Entry
+abbrev pub entry : (n : ℕ) → 1 ≤ n → n ≤ 2 ^ 63 - 2 → Work → Entry
 entry n p q work = record { gtid = record { uuid = server 1; number = n; first = p; last = q }; time = 100 + n; work = work }
 
-abbrev log : List Entry → Log
+abbrev pub log : List Entry → Log
 log entries = record { base = []; entries = entries; fault = None }
 
 abbrev journal : (ps : List ShardName) (ns : List Successor) → length ps ≤ 64 → length ns ≤ 64 → names_differ ps ≡ true →
@@ -106,51 +102,6 @@ too_early gathered =
     let arrived = gathered.arrived (shard 1 60) refl in
     cons_is_not_nil one []
     (subst (λ p. due (shard 1 60) (resharded merge) p ≡ []) (same_position waiting (shard 1 60) arrived.0 [] arrived.1 refl) arrived.2)
-
-abbrev id_of : Image → ℕ
-id_of (Bytes (n ∷ text) ∷ cells) = n
-id_of cells = 0
-
--- a select that keeps the ids below 9
-abbrev below_nine : Bound
-below_nine = record {
-  row = λ table image. if nat_lt (id_of image) 9 then Some image else None;
-  tables = (7 ∷ []) ∷ [];
-  key = λ table image. image;
-  order = λ table a b. nat_cmp (id_of a) (id_of b);
-}
-
-abbrev row : ℕ → Image
-row n = Bytes (n ∷ []) ∷ []
-
-abbrev change : Option Image → Option Image → Change
-change before after = record { table = 7 ∷ []; before = before; after = after }
-
-abbrev last_key : ℕ → LastKey
-last_key n = record { table = 7 ∷ []; key = row n; table_fits = one_fits 7; few_cells = omega arith; few_bytes = omega arith }
-
-picks : (picked_change below_nine (change (Some (row 5)) (Some (row 50))) ≡ Some (change (Some (row 5)) None))
-    × (picked_change below_nine (change (Some (row 40)) (Some (row 50))) ≡ None)
-picks = (refl, refl)
-
--- One transaction inserts the rows 1 to 3, and the next makes row 1 row 5.
-abbrev copied : Log
-copied =
-    let inserts : List Change = change None (Some (row 1)) ∷ change None (Some (row 2)) ∷ change None (Some (row 3)) ∷ [] in
-    let first = entry 1 (omega arith) (omega arith) (Rows inserts) in
-    let next = entry 2 (omega arith) (omega arith) (Rows (change (Some (row 1)) (Some (row 5)) ∷ [])) in
-    log (first ∷ next ∷ [])
-
-abbrev rows_to : ℕ → Option LastKey → Option (List ℕ × List (Image × Image))
-rows_to n l = next_rows below_nine (changes_in (front copied (up_to 1 n))) l
-
-chunks : (rows_to 1 None ≡ Some (7 ∷ [], (row 1, row 1) ∷ (row 2, row 2) ∷ (row 3, row 3) ∷ []))
-    × (rows_to 2 (Some (last_key 2)) ≡ Some (7 ∷ [], (row 3, row 3) ∷ (row 5, row 5) ∷ []))
-    × (rows_to 2 (Some (last_key 5)) ≡ None)
-    × (change_within below_nine (last_key 2) (change (Some (row 1)) (Some (row 5))) ≡ change (Some (row 1)) None)
-    × (within_limits 99 4194303 ((row 1, row 1) ∷ (row 2, row 2) ∷ []) ≡ (row 1, row 1) ∷ [])
-unfolding has
-chunks = (refl, refl, refl, refl, refl)
 
 -- a keyspace stands for its shards, in the order of the cluster
 asks : asked ((shard 1 80, log []) ∷ (shard 1 81, log []) ∷ (shard 2 1, log []) ∷ []) (OneShard (shard 3 1) FromEnd ∷ AllShards (1 ∷ []) (From []) ∷ [])

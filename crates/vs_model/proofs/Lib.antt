@@ -9,3 +9,4 @@ mod Resumed
 mod Comes
 mod Stays
 mod Final
+mod CopyExamples

@@ -1,7 +1,8 @@
 -- Lawful steps one after another are a legal list, and a legal list is such steps.
-use Rattle.std.proofs.Common.{◌≡◌, ◌≢◌, Bool, true, false, ◌||◌, List, [], ◌∷◌, ◌++◌, append_assoc, IsTrue, refl, ap, sym, ◌∙◌, subst}
+use Rattle.std.proofs.Common.{◌≡◌, ◌≢◌, ◌||◌, List, [], ◌∷◌, ◌++◌, append_assoc, IsTrue, refl, ap, sym, ◌∙◌, subst}
 use Rattle.std.specs.List.{AllZip, AllByRecursion}
 use Rattle.std.proofs.lemmas.List.Elements.{filter-append}
+use Rattle.std.proofs.Math.Bool.{or-false}
 use Rattle.vs_base.specs.declared.ShardName.{ShardName}
 use Rattle.vs_base.specs.declared.Gtid.{Gtid}
 use Rattle.vs_gtid.specs.declared.Entry.{Entry}
@@ -16,10 +17,6 @@ use Rattle.vs_model.proofs.Lists.{cons_is_not_nil}
 use Rattle.vs_model.proofs.Places.{same_position}
 use Rattle.vs_model.proofs.Entries.{due_twice, grown_twice}
 use Rattle.vs_model.proofs.Sent.{between-sent, sends_from, sends_nothing}
-
-or_nothing : (b : Bool) → (b || false) ≡ true → b ≡ true
-or_nothing true h = refl
-or_nothing false h = h
 
 module _ {A B : Type 0} (R : A → B → Type 0) where
   AllZip-append : (xs : List A) (ys : List B) (us : List A) (vs : List B) → AllZip R xs ys → AllZip R us vs → AllZip R (xs ++ us) (ys ++ vs)
@@ -58,7 +55,7 @@ module _ (bound : Bound) (s : ShardName) (log : Log) (p q r : Position) (fs gs :
       λ g in_base. same_set none g (to_r.base some g in_base)
     where
       same_set : one ≡ [] → (g : Gtid) → IsTrue (has q g) → IsTrue (has p g)
-      same_set none g h = or_nothing (has p g) (sym (ap (λ es. has p g || is_gtid_of es g) none) ∙ sym (to_q.position g) ∙ h)
+      same_set none g h = sym (or-false (has p g)) ∙ (sym (ap (λ es. has p g || is_gtid_of es g) none) ∙ sym (to_q.position g) ∙ h)
 
   pub Sends-append : Sends bound s log p r (fs ++ gs)
   Sends-append =

@@ -1,7 +1,8 @@
 -- What a shard sends from one position to the next.
-use Rattle.std.proofs.Common.{◌≡◌, ◌≢◌, Bool, true, false, not, cond, ◌||◌, List, [], ◌∷◌, ◌++◌, append-nil, filter, refl, ap, sym, ◌∙◌, subst, is_some}
+use Rattle.std.proofs.Common.{◌≡◌, ◌≢◌, Bool, true, false, not, cond, List, [], ◌∷◌, ◌++◌, append-nil, filter, refl, ap, sym, ◌∙◌, subst, is_some}
 use Rattle.std.specs.List.{list_any, AllZip, AllByRecursion}
 use Rattle.std.proofs.lemmas.Bool.{or_parts, or_from, or_left, or_right}
+use Rattle.std.proofs.Math.Bool.{or-false}
 use Rattle.std.proofs.lemmas.List.Elements.{filter-append}
 use Rattle.vs_base.specs.declared.ShardName.{ShardName}
 use Rattle.vs_base.proofs.NameLemmas.{same_gtid-refl}
@@ -86,13 +87,9 @@ module _ (bound : Bound) (s : ShardName) (log : Log) where
         position = subst (λ es. IsPositionAfter p es q) back grown;
       }
 
-  or_false : (b : Bool) → b ≡ (b || false)
-  or_false true = refl
-  or_false false = refl
-
   -- a shard with no frame stays where it is
   pub sends_nothing : (p : Position) (fs : List Frame) → frames_of s fs ≡ [] → Sends bound s log p p fs
   sends_nothing p fs no_frame =
       sends_from p p fs [] (due s log p) (due_lacked s log p) refl
       (subst (λ l. AllZip (IsTxOf bound) l []) (sym no_frame) tt)
-      (λ some. absurd (some no_frame)) (λ g. or_false (has p g))
+      (λ some. absurd (some no_frame)) (λ g. sym (or-false (has p g)))
