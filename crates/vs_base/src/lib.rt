@@ -8,6 +8,8 @@ mod gtid;
 mod list;
 mod shard_name;
 mod table;
+#[cfg(test)]
+mod tests;
 mod text;
 mod why;
 
