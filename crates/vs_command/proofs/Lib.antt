@@ -4,3 +4,4 @@ pub mod AnswerLemmas
 pub mod StreamLemmas
 pub mod FetchLemmas
 pub mod WordLemmas
+pub mod LineLemmas
