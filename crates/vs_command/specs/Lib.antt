@@ -4,3 +4,4 @@ pub mod Sending
 pub mod Streaming
 pub mod Words
 pub mod Laws
+pub mod StatusTexts

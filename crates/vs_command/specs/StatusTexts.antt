@@ -1,0 +1,70 @@
+-- The number and the line of each end of a session.
+use Rattle.std.specs.Prelude.{ℕ, List, [], ◌++◌, codes, decimal}
+use Rattle.vs_base.specs.declared.ShardName.{ShardName}
+use Rattle.vs_base.specs.declared.Why.{Why}
+use Rattle.vs_base.specs.declared.Why.TheVariants.{BadMagic, NoFormat, BadVersion, Checksummed, BadLength, BadEvent, BadOrder, NestedBegin, Anonymous, BadGtid, RepeatedGtid, Unsupported, UnsupportedStatement, TooLarge, TooManyIntervals, JournalNotAlone}
+use Rattle.vs_base.specs.declared.Why as why
+use Rattle.vs_gtid.specs.Joins.{added}
+use Rattle.vs_gtid.specs.Text.{set_text}
+use Rattle.vs_command.specs.declared.status.RequestFault.{RequestFault}
+use Rattle.vs_command.specs.declared.status.RequestFault.TheVariants as fault
+use Rattle.vs_command.specs.declared.status.Status.{Status}
+use Rattle.vs_command.specs.declared.status.Status.TheVariants.{Done, Memory, Usage, Request, UnknownShard, Purged, BadLog, FeedFault, LinkFault, InputFault, OpenFault, PositionTooLarge}
+
+-- the number that tells the ends apart, as the program's exit status
+unfoldable pub status_number : Status → ℕ
+status_number Done = 0
+status_number Memory = 1
+status_number Usage = 2
+status_number (Request fault) = 3
+status_number (UnknownShard name) = 4
+status_number (Purged name missing) = 5
+status_number (BadLog name offset why) = 6
+status_number (FeedFault name) = 9
+status_number LinkFault = 10
+status_number InputFault = 11
+status_number (OpenFault name) = 12
+status_number (PositionTooLarge name) = 14
+
+-- a shard under its keyspace: `keyspace/shard`
+abbrev pub name_text : ShardName → List ℕ
+name_text name = name.keyspace ++ codes "/" ++ name.shard
+
+-- what is wrong with an event
+unfoldable pub why_text : Why → List ℕ
+why_text BadMagic = codes "bad magic"
+why_text NoFormat = codes "no format"
+why_text (BadVersion version) = codes "version " ++ decimal version
+why_text (Checksummed kind) = codes "checksummed"
+why_text (BadLength size) = codes "bad length " ++ decimal size
+why_text (BadEvent kind) = codes "bad event " ++ decimal kind
+why_text (BadOrder kind) = codes "event " ++ decimal kind ++ codes " out of order"
+why_text NestedBegin = codes "nested begin"
+why_text Anonymous = codes "anonymous"
+why_text BadGtid = codes "bad gtid"
+why_text (RepeatedGtid gtid) = codes "repeated gtid"
+why_text (Unsupported kind) = codes "unsupported event " ++ decimal kind
+why_text UnsupportedStatement = codes "unsupported statement"
+why_text (TooLarge bytes) = codes "too large"
+why_text TooManyIntervals = codes "too many intervals"
+why_text JournalNotAlone = codes "journal not alone"
+why_text why.TheVariants.NotBuilt = codes "not built"
+
+-- what is wrong with a request: the fault's name, and its numbers
+abbrev pub fault_text : RequestFault → List ℕ
+fault_text (fault.NotBuilt index) = codes "NotBuilt " ++ decimal index
+
+-- The line that tells how a session ended, without its line feed. Of one that is done it is empty.
+unfoldable pub status_line : Status → List ℕ
+status_line Done = []
+status_line Memory = codes "out of memory"
+status_line Usage = codes "usage: vstreamd stream DIR [--until-end] [--capacity N]"
+status_line (Request fault) = codes "request: " ++ fault_text fault
+status_line (UnknownShard name) = codes "unknown shard " ++ name_text name
+status_line (Purged name missing) = codes "purged " ++ name_text name ++ codes " " ++ set_text (added [] missing)
+status_line (BadLog name offset why) = codes "bad log " ++ name_text name ++ codes " at " ++ decimal offset ++ codes ": " ++ why_text why
+status_line (FeedFault name) = codes "feed fault " ++ name_text name
+status_line LinkFault = codes "link fault"
+status_line InputFault = codes "input fault"
+status_line (OpenFault name) = codes "open fault " ++ name_text name
+status_line (PositionTooLarge name) = codes "position too large " ++ name_text name
