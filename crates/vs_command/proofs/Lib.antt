@@ -3,3 +3,4 @@ pub mod LegalLemmas
 pub mod AnswerLemmas
 pub mod StreamLemmas
 pub mod FetchLemmas
+pub mod OpeningLemmas

@@ -2,3 +2,4 @@ pub mod Spelling
 pub mod Line
 pub mod Sending
 pub mod Streaming
+pub mod Openings
