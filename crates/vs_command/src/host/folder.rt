@@ -4,11 +4,10 @@ use crate::host::FileFeed;
 use crate::host::openings::Openings;
 use crate::host::path::file_path;
 use std::alloc::Global;
-use std::fs;
 use std::fs::File;
-use std::io;
 use std::io::{ErrorKind, Read};
 use std::rt::Files;
+use std::{fs, io};
 use vs_base::{OutOfMemory, ShardName, Text};
 use vs_outside::{AskEnd, Feed, Opened, Tablets};
 

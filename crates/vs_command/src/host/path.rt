@@ -2,20 +2,17 @@ use std::alloc::Global;
 use vs_base::ShardName;
 use vs_outside::AskEnd;
 
-fn is_name_byte(byte: u8) -> bool
-{
+fn is_name_byte(byte: u8) -> bool {
     byte.is_ascii_alphanumeric() || byte == b'-' || byte == b'_'
 }
 
 /// Whether the text may name a keyspace.
-fn is_keyspace(text: &[u8]) -> bool
-{
+fn is_keyspace(text: &[u8]) -> bool {
     !text.is_empty() && text.len() <= 64 && text.iter().all(|b| is_name_byte(*b))
 }
 
 /// Whether the text may name a shard.
-fn is_shard(text: &[u8]) -> bool
-{
+fn is_shard(text: &[u8]) -> bool {
     !text.is_empty()
         && text.len() <= 64
         && text.iter().all(|b| is_name_byte(*b) || *b == b'.')

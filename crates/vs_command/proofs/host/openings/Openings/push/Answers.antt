@@ -4,4 +4,3 @@ use Rattle.vs_command.proofs.host.openings.Openings.push.Goals as goal
 
 pub returns-clause-faults : goal.returns-clause-faults
 returns-clause-faults c = rw c.in_ok-push.ensures.items (count_of-push (λ o. o.faults) c.args.self.now.openings.items _ refl)
-
