@@ -3,6 +3,8 @@
 mod clock;
 mod feed;
 mod folder;
+mod lawful;
+mod listing;
 mod openings;
 mod path;
 mod terminal;

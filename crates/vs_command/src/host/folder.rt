@@ -1,13 +1,14 @@
 ghost use Rattle.std.specs.Prelude.{◌≡◌, ◌++◌, ◌∷◌, [], IfOk, IfSome, OnErr, OnOk};
 
 use crate::host::FileFeed;
+use crate::host::listing::{end_of, names_in};
 use crate::host::openings::Openings;
 use crate::host::path::file_path;
 use std::alloc::Global;
+use std::fs;
 use std::fs::File;
 use std::io::{ErrorKind, Read};
 use std::rt::Files;
-use std::{fs, io};
 use vs_base::{OutOfMemory, ShardName, Text};
 use vs_outside::{AskEnd, Feed, Opened, Tablets};
 
@@ -32,15 +33,6 @@ impl<R: Files<File = File> + Drop> FolderTablets<R> {
             failed: Vec::new(alloc),
             list_faults: 0,
         }
-    }
-}
-
-/// A failed call for want of memory is no fault of the folder.
-fn end_of(error: &io::Error) -> AskEnd {
-    if error.kind() == ErrorKind::OutOfMemory {
-        AskEnd::Memory
-    } else {
-        AskEnd::Failed
     }
 }
 
@@ -98,7 +90,7 @@ fn push_copy(names: &mut Vec<ShardName>, alloc: Global, name: &ShardName) -> Res
     Ok(())
 }
 
-impl<R: Files<File = File> + Drop> Tablets for FolderTablets<R> {
+impl<R: Files<File = File> + Alloc + Clone + Drop> Tablets for FolderTablets<R> {
     ghost use Rattle.std.specs.Prelude.{None, false};
     ghost use Rattle.std.proofs.Common.{sym};
     ghost use Rattle.std.proofs.lemmas.Bool.{true≢false};
@@ -128,10 +120,14 @@ impl<R: Files<File = File> + Drop> Tablets for FolderTablets<R> {
         Ok(())
     }
 
-    /// Folders are not listed yet: each call fails, and counts a fault.
-    fn list(&mut self, _alloc: Global, _keyspace: &[u8]) -> Result<Option<Vec<Text>>, AskEnd> {
-        self.list_faults = self.list_faults.saturating_add(1);
-        Err(AskEnd::Failed)
+    fn list(&mut self, alloc: Global, keyspace: &[u8]) -> Result<Option<Vec<Text>>, AskEnd> {
+        match names_in(&self.rt, alloc, self.folder.as_str(), keyspace) {
+            Err(AskEnd::Failed) => {
+                self.list_faults = self.list_faults.saturating_add(1);
+                Err(AskEnd::Failed)
+            }
+            listed => listed,
+        }
     }
 
     fn open_log(
