@@ -5,3 +5,4 @@ pub mod StreamLemmas
 pub mod FetchLemmas
 pub mod WordLemmas
 pub mod LineLemmas
+pub mod OpeningLemmas

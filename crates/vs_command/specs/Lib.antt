@@ -5,3 +5,4 @@ pub mod Streaming
 pub mod Words
 pub mod Laws
 pub mod StatusTexts
+pub mod Openings

@@ -3,6 +3,7 @@
 
 mod fetch;
 mod frame;
+mod host;
 mod line;
 mod run;
 mod sending;
