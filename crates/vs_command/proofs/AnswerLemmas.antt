@@ -12,18 +12,11 @@ use Rattle.vs_outside.specs.Clusters.{Shard, ClusterBytes, find_shard}
 use Rattle.vs_outside.specs.Told.{Writes}
 use Rattle.vs_outside.proofs.ToldLemmas.{IsPrefixOf-refl, Writes-none, Writes-weaken}
 use Rattle.vs_gtid.specs.Missing.{IsFirstMissing}
-use Rattle.vs_log.specs.Table.{Rules}
-use Rattle.vs_log.specs.Laws.{HasNewGtids}
-use Rattle.vs_log.specs.Meaning.{log_meant}
 use Rattle.vs_entries.specs.Rules.{rules_of}
-use Rattle.vs_model.specs.Logs.{Cluster, LogsAreDistinct, log_of, due, stop, IsPositionAfter}
-use Rattle.vs_model.specs.Vectors.{Vector, Place, Streams, place_of}
+use Rattle.vs_model.specs.Logs.{Cluster, LogsAreDistinct, log_of, due, stop}
+use Rattle.vs_model.specs.Vectors.{Place, place_of}
 use Rattle.vs_model.specs.Vectors.Place.{Streaming}
-use Rattle.vs_model.specs.Frames.{Frame, last_vector}
-use Rattle.vs_model.specs.Copy.{Filter}
-use Rattle.vs_model.specs.Legal.{AllCopiedFollows, Legal}
-use Rattle.vs_model.specs.Steps.{Steps}
-use Rattle.vs_model.specs.Reached.{IsSettled}
+use Rattle.vs_model.specs.Frames.{Frame}
 use Rattle.vs_model.specs.Requests.{First, OneShard, From}
 use Rattle.vs_command.specs.declared.status.Status.{Status}
 use Rattle.vs_command.specs.declared.status.Status.TheVariants.{Done}
@@ -85,11 +78,11 @@ finished_at laws cluster s distinct statements sent are base fault =
     let none_stops : stop s log q ≡ None = laws.stop s log [] q sent [] (distinct s) all (after_all [] sent) ∙ stop_none s log statements in
     record {
       settled = λ t place h.
-        let it = at_only s t q place h in
-        (q, it.1, subst (λ u. due u (log_of cluster u) q ≡ []) it.0 none_due, subst (λ u. stop u (log_of cluster u) q ≡ None) it.0 none_stops);
+          let it = at_only s t q place h in
+          (q, it.1, subst (λ u. due u (log_of cluster u) q ≡ []) it.0 none_due, subst (λ u. stop u (log_of cluster u) q ≡ None) it.0 none_stops);
       readable = λ t p h.
-        let it = at_only s t q (Streaming p) h in
-        (subst (λ u. IsSubset (log_of cluster u).base p) it.0 (λ g within. absurd (none_in g (base g within))), subst (λ u. (log_of cluster u).fault ≡ None) it.0 fault);
+          let it = at_only s t q (Streaming p) h in
+          (subst (λ u. IsSubset (log_of cluster u).base p) it.0 (λ g within. absurd (none_in g (base g within))), subst (λ u. (log_of cluster u).fault ≡ None) it.0 fault);
     }
 
 -- what an answer says of a log, it says of the shard's log
@@ -124,17 +117,17 @@ Answers-streamed laws cluster s shard status written found streamed cause =
       frames = frames;
       first = first_of (cluster_meant cluster) s;
       legal = laws.steps (cluster_meant cluster) takes_all (vector_at s []) frames distinct (copies_sent s [] streamed.sent)
-        (steps_sent laws.transactions laws.due (cluster_meant cluster) s distinct [] streamed.sent streamed.rest sent first base streamed.canonical);
+          (steps_sent laws.transactions laws.due (cluster_meant cluster) s distinct [] streamed.sent streamed.rest sent first base streamed.canonical);
       bytes = streamed.bytes;
       spelled = streamed.spelled;
       prefix = streamed.prefix;
       whole = streamed.whole;
       finished = λ done.
-        let end = streamed.finished done in
-        let all : log.entries ≡ streamed.sent = are ∙ ap (λ l. streamed.sent ++ l) end.0 ∙ append-nil streamed.sent in
-        let within : IsSubset log.base [] = subst (λ (l : Log). IsSubset l.base []) (sym meant) end.1 in
-        let whole : log.fault ≡ None = ap (λ (l : Log). l.fault) meant ∙ end.2 in
-        subst (λ v. IsFinished (cluster_meant cluster) v) (sym (last_sent s [] streamed.sent))
+          let end = streamed.finished done in
+          let all : log.entries ≡ streamed.sent = are ∙ ap (λ l. streamed.sent ++ l) end.0 ∙ append-nil streamed.sent in
+          let within : IsSubset log.base [] = subst (λ (l : Log). IsSubset l.base []) (sym meant) end.1 in
+          let whole : log.fault ≡ None = ap (λ (l : Log). l.fault) meant ∙ end.2 in
+          subst (λ v. IsFinished (cluster_meant cluster) v) (sym (last_sent s [] streamed.sent))
           (finished_at laws (cluster_meant cluster) s distinct statements streamed.sent all within whole);
       cause = caused cluster s (shard_log s shard.log) status meant cause;
     }
@@ -142,9 +135,16 @@ Answers-streamed laws cluster s shard status written found streamed cause =
 -- nothing was written, and nothing is promised
 pub Answers-none : Laws → (cluster : ClusterBytes) (s : ShardName) (status : Status) → status ≢ Done → HasCause cluster s status → Answers cluster s status []
 Answers-none laws cluster s status other cause = record {
-  v0 = vector_at s []; frames = []; first = first_of (cluster_meant cluster) s;
-  legal = laws.steps (cluster_meant cluster) takes_all (vector_at s []) [] (distinct_meant laws.new_gtids cluster) (copies_sent s [] []) tt; bytes = []; spelled = refl;
-  prefix = IsPrefixOf-refl []; whole = λ _. refl; finished = λ done. absurd (other done); cause = cause;
+  v0 = vector_at s [];
+  frames = [];
+  first = first_of (cluster_meant cluster) s;
+  legal = laws.steps (cluster_meant cluster) takes_all (vector_at s []) [] (distinct_meant laws.new_gtids cluster) (copies_sent s [] []) tt;
+  bytes = [];
+  spelled = refl;
+  prefix = IsPrefixOf-refl [];
+  whole = λ _. refl;
+  finished = λ done. absurd (other done);
+  cause = cause;
 }
 
 -- where the cluster is told, and the log is the shard's
@@ -155,7 +155,7 @@ Writes-streamed laws None s status bytes before now fetched wrote cause = tt
 Writes-streamed laws (Some c) s status bytes before now (shard, found, is) wrote cause =
     Writes-weaken (IsStreamed s (shard_log s bytes) status) (Answers c s status) before now
     (λ w streamed. Answers-streamed laws c s shard status w found
-      (subst (λ b. IsStreamed s (shard_log s b) status w) is streamed) (subst (λ b. HasLogCause s (shard_log s b) status) is cause)) wrote
+    (subst (λ b. IsStreamed s (shard_log s b) status w) is streamed) (subst (λ b. HasLogCause s (shard_log s b) status) is cause)) wrote
 
 -- where nothing was written
 pub Writes-unanswered : Laws → (told : Option ClusterBytes) (s : ShardName) (status : Status) (sent : Option (List ℕ)) → status ≢ Done →

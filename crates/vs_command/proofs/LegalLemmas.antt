@@ -1,28 +1,28 @@
 -- The frames of a shard's first due entries are legal, and end where nothing is due where they are all of them.
-use Rattle.std.proofs.Common.{◌≡◌, ◌≢◌, ℕ, Bool, true, false, ◌||◌, not, List, [], ◌∷◌, ◌++◌, Option, Some, None, IsTrue, if◌then◌else◌, is_some, refl, sym, ap, subst, ◌∙◌}
+use Rattle.std.proofs.Common.{◌≡◌, ℕ, Bool, true, false, ◌||◌, not, List, [], ◌∷◌, ◌++◌, Some, None, IsTrue, if◌then◌else◌, is_some, refl, sym, ap, subst, ◌∙◌}
 use Rattle.std.specs.Prelude.{IfSome, ◌⊎◌}
-use Rattle.std.specs.List.{AllByRecursion, filter}
+use Rattle.std.specs.List.{filter}
 use Rattle.std.specs.Option.{option_or}
 use Rattle.std.proofs.Math.Bool.{or-false}
 use Rattle.vs_base.specs.declared.ShardName.{ShardName}
 use Rattle.vs_base.specs.declared.Gtid.{Gtid}
-use Rattle.vs_base.specs.Names.{same_name, same_gtid}
+use Rattle.vs_base.specs.Names.{same_gtid}
 use Rattle.vs_base.proofs.NameLemmas.{same_name-refl}
 use Rattle.vs_gtid.specs.declared.Work.{Work}
 use Rattle.vs_gtid.specs.declared.Work.TheVariants.{Rows, Ddl, Other, Journal}
 use Rattle.vs_gtid.specs.declared.Entry.{Entry}
 use Rattle.vs_gtid.specs.Positions.{Position, has, IsSubset, IsCanonical}
 use Rattle.vs_gtid.specs.Joins.{added}
-use Rattle.vs_gtid.specs.Logs.{Log, HaveDistinctGtids, IsStatement}
+use Rattle.vs_gtid.specs.Logs.{Log, IsStatement}
 use Rattle.vs_gtid.proofs.JoinLemmas.{has-added}
-use Rattle.vs_model.specs.Logs.{Cluster, LogsAreDistinct, log_of, due, stop, own_of, own_journal, journal_of, up_to_own, first_own, IsPositionAfter, is_gtid_of}
+use Rattle.vs_model.specs.Logs.{Cluster, LogsAreDistinct, log_of, due, stop, own_of, journal_of, up_to_own, first_own, IsPositionAfter, is_gtid_of}
 use Rattle.vs_model.specs.Vectors.{Vector, Place, place_of, moved}
 use Rattle.vs_model.specs.Vectors.Place.{Streaming}
 use Rattle.vs_model.specs.Frames.{Frame, last_vector}
-use Rattle.vs_model.specs.Frames.Frame.{Tx, AllCopied}
-use Rattle.vs_model.specs.Copy.{Filter, picked}
+use Rattle.vs_model.specs.Frames.Frame.{AllCopied}
+use Rattle.vs_model.specs.Copy.{picked}
 use Rattle.vs_model.specs.Legal.{AllCopiedFollows, NoParticipantStands}
-use Rattle.vs_model.specs.Steps.{SendsTx, Step, Steps}
+use Rattle.vs_model.specs.Steps.{SendsTx, Steps}
 use Rattle.vs_command.specs.Sending.{vector_at, position_after, entry_frames, IsCanonicalAlong}
 use Rattle.vs_command.specs.Laws.{LawOfTransactions, LawOfDue, AreStatements}
 use Rattle.vs_command.specs.Streaming.{takes_all}
@@ -76,7 +76,10 @@ subset_added base p g within x h = subst IsTrue (sym (has-added p g x)) (or_true
 sends : (cluster : Cluster) (s : ShardName) (p : Position) (e : Entry) (rest : List Entry) → IsStatement e.work → due s (log_of cluster s) p ≡ e ∷ rest →
     IsSubset (log_of cluster s).base p → IsCanonical (added p e.gtid) → SendsTx cluster takes_all (vector_at s p) s e (vector_at s (added p e.gtid))
 sends cluster s p e rest statement first base canonical = record {
-  p = p; e = e; rest = rest; q = added p e.gtid;
+  p = p;
+  e = e;
+  rest = rest;
+  q = added p e.gtid;
   streams = stands_at s p;
   first = first;
   told_is = taken s e.gtid e.time e.work statement;
@@ -92,11 +95,12 @@ pub steps_sent : LawOfTransactions → LawOfDue → (cluster : Cluster) (s : Sha
     Steps cluster takes_all (vector_at s p) (entry_frames s p sent)
 steps_sent tx due_law cluster s distinct p [] rest statements are base canonical = tt
 steps_sent tx due_law cluster s distinct p (e ∷ es) rest statements are (◌⊎◌.inl none) canonical = absurd (cc)
-steps_sent tx due_law cluster s distinct p (e ∷ es) rest statements are (◌⊎◌.inr base) canonical =
-    (tx cluster takes_all (vector_at s p) (vector_at s (added p e.gtid)) s e distinct (sends cluster s p e (es ++ rest) statements.0 are base canonical.0),
-     steps_sent tx due_law cluster s distinct (added p e.gtid) es rest statements.1
-       (due_law s (log_of cluster s) p (added p e.gtid) (e ∷ []) (es ++ rest) (distinct s) are (after_one p e))
-       (◌⊎◌.inr (subset_added (log_of cluster s).base p e.gtid base)) canonical.1)
+steps_sent tx due_law cluster s distinct p (e ∷ es) rest statements are (◌⊎◌.inr base) canonical = (
+  tx cluster takes_all (vector_at s p) (vector_at s (added p e.gtid)) s e distinct (sends cluster s p e (es ++ rest) statements.0 are base canonical.0),
+  steps_sent tx due_law cluster s distinct (added p e.gtid) es rest statements.1
+      (due_law s (log_of cluster s) p (added p e.gtid) (e ∷ []) (es ++ rest) (distinct s) are (after_one p e))
+      (◌⊎◌.inr (subset_added (log_of cluster s).base p e.gtid base)) canonical.1,
+)
 
 -- no copy ends among transactions
 none_copied : (s : ShardName) (p : Position) (sent : List Entry) (before behind : List Frame) → entry_frames s p sent ≡ before ++ AllCopied ∷ behind → ⊥

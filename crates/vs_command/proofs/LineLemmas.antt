@@ -1,5 +1,5 @@
 -- Lines, and what stands before the first byte of a value.
-use Rattle.std.proofs.Common.{◌≡◌, ◌≢◌, ◌≤◌, ◌<◌, ◌+◌, ◌∙◌, ℕ, List, [], ◌∷◌, ◌++◌, Bool, true, false, length, take, get_or, Option, Some, None, refl, sym, ap, subst, arith, append_assoc, length-append, nat_eq}
+use Rattle.std.proofs.Common.{◌≡◌, ◌≢◌, ◌≤◌, ◌<◌, ◌+◌, ◌∙◌, ℕ, List, [], ◌∷◌, ◌++◌, Bool, true, false, length, take, get_or, Option, Some, None, refl, sym, ap, subst, arith, append_assoc, length-append, nat_eq, nat_le, not, ◌&&◌}
 use Rattle.std.specs.Prelude.{codes, IfSome, IsSomeAnd, IsTrue, MatchOption}
 use Rattle.std.specs.List.{list_all}
 use Rattle.std.specs.Cmp.Lexicographic.{pointwise}
@@ -8,7 +8,7 @@ use Rattle.std.proofs.lemmas.List.{take_more}
 use Rattle.std.proofs.lemmas.Slice.Eq.{bytes_eq-Decides}
 use Rattle.vs_base.specs.Names.{FitsName}
 use Rattle.vs_base.specs.declared.ShardName.{ShardName}
-use Rattle.vs_outside.specs.Names.{is_keyspace_text, is_name_byte, is_shard_byte, is_shard_text}
+use Rattle.vs_outside.specs.Names.{has_name_length, is_dots, is_keyspace_text, is_name_byte, is_shard_byte, is_shard_text}
 use Rattle.vs_command.specs.Line.{Asks, BeginsWithLine, EndsLine, HasLongLine, IsAbsent, IsLineOf, IsSplit, IsTaken, line_of}
 
 pub absent-append : (c : ℕ) (xs ys : List ℕ) → IsAbsent c xs → IsAbsent c ys → IsAbsent c (xs ++ ys)
@@ -69,13 +69,15 @@ keyspace-bytes : (text : List ℕ) → IsTrue (is_keyspace_text text) → list_a
 keyspace-bytes text h = (and_parts _ _ h).1
 
 shard-bytes : (text : List ℕ) → IsTrue (is_shard_text text) → list_all is_shard_byte text ≡ true
-shard-bytes text h = (and_parts _ _ (and_parts _ _ (and_parts _ _ h).0).0).1
+shard-bytes text h = (and_parts (has_name_length text) (list_all is_shard_byte text) (and_parts (not (is_dots text)) (has_name_length text && list_all is_shard_byte text) h).1).1
 
 keyspace-length : (text : List ℕ) → IsTrue (is_keyspace_text text) → length text ≤ 64
 keyspace-length text h = leb-true (length text) 64 (and_parts _ _ (and_parts _ _ h).0).1
 
 shard-length : (text : List ℕ) → IsTrue (is_shard_text text) → length text ≤ 64
-shard-length text h = leb-true (length text) 64 (and_parts _ _ (and_parts _ _ (and_parts _ _ (and_parts _ _ h).0).0).0).1
+shard-length text h =
+    let lawful = (and_parts (not (is_dots text)) (has_name_length text && list_all is_shard_byte text) h).1 in
+    leb-true (length text) 64 (and_parts (nat_le 1 (length text)) (nat_le (length text) 64) (and_parts (has_name_length text) (list_all is_shard_byte text) lawful).0).1
 
 -- the line, from its slash on, and from its blank on
 slashed : (k s t : List ℕ) → k ++ 47 ∷ [] ++ s ++ t ≡ k ++ 47 ∷ (s ++ t)

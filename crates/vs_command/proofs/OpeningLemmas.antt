@@ -1,11 +1,11 @@
 -- The counts of names, before and after a call of the openings.
-use Rattle.std.proofs.Common.{◌≡◌, ℕ, zero, suc, ◌+◌, ◌≤◌, Bool, true, false, ◌==◌, cond, List, [], ◌∷◌, ◌++◌, length, get_or, position, find, Option, Some, None, refl, sym, ap, ◌∙◌, ⊎_elim, add-zero, arith}
+use Rattle.std.proofs.Common.{◌≡◌, ℕ, ◌+◌, ◌≤◌, Bool, true, false, cond, List, [], ◌∷◌, ◌++◌, length, get_or, position, find, Option, Some, None, refl, sym, ap, ◌∙◌, ⊎_elim, add-zero, arith}
 use Rattle.std.proofs.Math.ListN.{set}
 use Rattle.std.proofs.Math.Seq.{map-set_same, get_or-append_seam}
 use Rattle.std.specs.Option.{option_map_or, option_or}
 use Rattle.std.specs.List.{position_or_len}
 use Rattle.std.proofs.Math.ListN.{get_or-map}
-use Rattle.std.proofs.lemmas.Bool.{true≢false, ne_eqb, cases_lt}
+use Rattle.std.proofs.lemmas.Bool.{true≢false, cases_lt}
 use Rattle.std.proofs.lemmas.List.{length-map, length-append, set-get_or}
 use Rattle.std.proofs.lemmas.List.Folds.{find-set, find_past, find-append}
 use Rattle.std.proofs.lemmas.List.Quantifiers.{position-Some}

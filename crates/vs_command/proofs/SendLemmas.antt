@@ -67,8 +67,8 @@ pub Writes-frame : (s : ShardName) (p q : Position) (xs : List Entry) (e : Entry
 Writes-frame s p q xs e before between now at first second =
     Writes-then (WroteFirst s p xs) (IsSent s q e (Ok tt)) (WroteFirst s p (xs ++ e ∷ [])) before between now
     (λ v w wrote sent.
-      let next : IsSent s (position_after p xs) e (Ok tt) w = subst (λ r. IsSent s r e (Ok tt) w) at sent in
-      (AreSpelled-more s p xs e v w wrote.0 next.0, IsCanonicalAlong-more p xs e wrote.1 next.1)) first second
+    let next : IsSent s (position_after p xs) e (Ok tt) w = subst (λ r. IsSent s r e (Ok tt) w) at sent in
+    (AreSpelled-more s p xs e v w wrote.0 next.0, IsCanonicalAlong-more p xs e wrote.1 next.1)) first second
 
 -- no frame was written behind those of the first entries
 cut_before : (s : ShardName) (p : Position) (xs rest : List Entry) (end : SendEnd) (before between now : Option (List ℕ)) →
@@ -77,7 +77,12 @@ cut_before : (s : ShardName) (p : Position) (xs rest : List Entry) (end : SendEn
 cut_before s p xs rest end before between now first second other =
     Writes-then (WroteFirst s p xs) (λ w. w ≡ []) (λ w. AreSent s p (xs ++ rest) (Err end) w) before between now
     (λ v w wrote none. record {
-      sent = xs; rest = rest; are = refl; bytes = v; spelled = wrote.0; canonical = wrote.1;
+      sent = xs;
+      rest = rest;
+      are = refl;
+      bytes = v;
+      spelled = wrote.0;
+      canonical = wrote.1;
       prefix = subst (λ l. IsPrefixOf l v) (sym (ap (λ l. v ++ l) none ∙ append-nil v)) (IsPrefixOf-refl v);
       whole = λ _. ap (λ l. v ++ l) none ∙ append-nil v;
       all = tt;
@@ -90,8 +95,11 @@ cut_within : (s : ShardName) (p q : Position) (xs rest : List Entry) (e : Entry)
 cut_within s p q xs rest e before between now at first second =
     Writes-then (WroteFirst s p xs) (λ w. IsSent s q e (Err LinkFault) w) (λ w. AreSent s p (xs ++ e ∷ rest) (Err LinkFault) w) before between now
     (λ v w wrote sent.
-      let cut : IsSent s (position_after p xs) e (Err LinkFault) w = subst (λ r. IsSent s r e (Err LinkFault) w) at sent in record {
-      sent = xs ++ e ∷ []; rest = rest; are = sym (append_assoc xs (e ∷ []) rest); bytes = v ++ cut.0;
+    let cut : IsSent s (position_after p xs) e (Err LinkFault) w = subst (λ r. IsSent s r e (Err LinkFault) w) at sent in record {
+      sent = xs ++ e ∷ [];
+      rest = rest;
+      are = sym (append_assoc xs (e ∷ []) rest);
+      bytes = v ++ cut.0;
       spelled = AreSpelled-more s p xs e v cut.0 wrote.0 cut.1;
       canonical = IsCanonicalAlong-more p xs e wrote.1 cut.3;
       prefix = IsPrefixOf-behind v w cut.0 cut.2;

@@ -1,6 +1,6 @@
 -- What was written of a log, by what was sent of its entries.
-use Rattle.std.proofs.Common.{◌≡◌, ◌≢◌, ℕ, List, [], ◌∷◌, ◌++◌, Option, Some, None, Ok, Err, refl, sym, ap, subst, ◌∙◌, append-nil}
-use Rattle.std.specs.Prelude.{◌⊎◌, OnOk}
+use Rattle.std.proofs.Common.{◌≡◌, ◌≢◌, ℕ, List, [], Option, None, Ok, Err, refl, ap, subst, ◌∙◌}
+use Rattle.std.specs.Prelude.{◌⊎◌}
 use Rattle.vs_base.specs.declared.ShardName.{ShardName}
 use Rattle.vs_gtid.specs.declared.Entry.{Entry}
 use Rattle.vs_gtid.specs.Positions.{Position, IsSubset}
@@ -21,8 +21,16 @@ use Rattle.vs_command.specs.Streaming.{IsStreamed, shard_log}
 -- nothing was written
 Streamed-nothing : (s : ShardName) (log : Log) (status : Status) → status ≢ statuses.Done → IsStreamed s log status []
 Streamed-nothing s log status other = record {
-  sent = []; rest = log.entries; are = refl; bytes = []; spelled = refl; canonical = tt; prefix = IsPrefixOf-refl [];
-  whole = λ _. refl; base = ◌⊎◌.inl refl; finished = λ done. absurd (other done);
+  sent = [];
+  rest = log.entries;
+  are = refl;
+  bytes = [];
+  spelled = refl;
+  canonical = tt;
+  prefix = IsPrefixOf-refl [];
+  whole = λ _. refl;
+  base = ◌⊎◌.inl refl;
+  finished = λ done. absurd (other done);
 }
 
 pub Writes-nothing : (s : ShardName) (log : Log) (status : Status) (told : Option (List ℕ)) → status ≢ statuses.Done → Writes told told (IsStreamed s log status)
@@ -34,9 +42,16 @@ pub Writes-refused : (s : ShardName) (log : Log) (end : SendEnd) (status : Statu
 Writes-refused s log end status before now base other link wrote =
     Writes-weaken (AreSent s [] log.entries (Err end)) (IsStreamed s log status) before now
     (λ w are_sent. record {
-      sent = are_sent.sent; rest = are_sent.rest; are = are_sent.are; bytes = are_sent.bytes; spelled = are_sent.spelled; canonical = are_sent.canonical;
-      prefix = are_sent.prefix; whole = λ no_link. are_sent.whole (λ h. link no_link (let p : end ≡ LinkFault = cc in p));
-      base = ◌⊎◌.inr base; finished = λ done. absurd (other done);
+      sent = are_sent.sent;
+      rest = are_sent.rest;
+      are = are_sent.are;
+      bytes = are_sent.bytes;
+      spelled = are_sent.spelled;
+      canonical = are_sent.canonical;
+      prefix = are_sent.prefix;
+      whole = λ no_link. are_sent.whole (λ h. link no_link (let p : end ≡ LinkFault = cc in p));
+      base = ◌⊎◌.inr base;
+      finished = λ done. absurd (other done);
     }) wrote
 
 -- all entries were sent
@@ -45,9 +60,16 @@ pub Writes-all : (s : ShardName) (log : Log) (status : Status) (before now : Opt
 Writes-all s log status before now base fault wrote =
     Writes-weaken (AreSent s [] log.entries (Ok tt)) (IsStreamed s log status) before now
     (λ w are_sent. record {
-      sent = are_sent.sent; rest = are_sent.rest; are = are_sent.are; bytes = are_sent.bytes; spelled = are_sent.spelled; canonical = are_sent.canonical;
-      prefix = are_sent.prefix; whole = λ _. are_sent.whole (λ h. cc);
-      base = ◌⊎◌.inr base; finished = λ done. (are_sent.all, base, fault done);
+      sent = are_sent.sent;
+      rest = are_sent.rest;
+      are = are_sent.are;
+      bytes = are_sent.bytes;
+      spelled = are_sent.spelled;
+      canonical = are_sent.canonical;
+      prefix = are_sent.prefix;
+      whole = λ _. are_sent.whole (λ h. cc);
+      base = ◌⊎◌.inr base;
+      finished = λ done. (are_sent.all, base, fault done);
     }) wrote
 
 -- What was read of a log, and the empty position.
@@ -76,7 +98,7 @@ pub Writes-read_refused : (s : ShardName) (bytes : List ℕ) (read : LogRead) (p
 Writes-read_refused s bytes read p entries end status before now is other link wrote =
     Writes-refused s (shard_log s bytes) end status before now (base_of s bytes read p entries is) other link
     (subst (λ q. Writes before now (AreSent s q (shard_log s bytes).entries (Err end))) is.from
-      (subst (λ es. Writes before now (AreSent s p es (Err end))) (entries_of s bytes read p entries is) wrote))
+    (subst (λ es. Writes before now (AreSent s p es (Err end))) (entries_of s bytes read p entries is) wrote))
 
 pub Writes-read_all : (s : ShardName) (bytes : List ℕ) (read : LogRead) (p : Position) (entries : List Entry) (status : Status) (before now : Option (List ℕ)) →
     IsReadOf s bytes read p entries → (status ≡ statuses.Done → (read_as read).fault ≡ None) →
@@ -85,4 +107,4 @@ Writes-read_all s bytes read p entries status before now is fault wrote =
     Writes-all s (shard_log s bytes) status before now (base_of s bytes read p entries is)
     (λ done. subst (λ (l : Log). l.fault ≡ None) (means_log s bytes read p entries is) (fault done))
     (subst (λ q. Writes before now (AreSent s q (shard_log s bytes).entries (Ok tt))) is.from
-      (subst (λ es. Writes before now (AreSent s p es (Ok tt))) (entries_of s bytes read p entries is) wrote))
+    (subst (λ es. Writes before now (AreSent s p es (Ok tt))) (entries_of s bytes read p entries is) wrote))

@@ -1,5 +1,5 @@
 -- What a stream of one shard writes, and what is known where it is done.
-use Rattle.std.specs.Prelude.{◌≡◌, ◌≢◌, ◌⊎◌, ℕ, List, [], ◌∷◌, ◌++◌, map, Option, Some, None}
+use Rattle.std.specs.Prelude.{◌≡◌, ◌≢◌, ◌⊎◌, ℕ, List, [], ◌∷◌, ◌++◌, map, Some, None}
 use Rattle.std.specs.declared.cmp.Ordering.TheVariants.{Equal}
 use Rattle.vs_base.specs.declared.ShardName.{ShardName}
 use Rattle.vs_gtid.specs.declared.Entry.{Entry}
@@ -10,7 +10,7 @@ use Rattle.vs_outside.specs.Clusters.{ClusterBytes, find_shard}
 use Rattle.vs_outside.specs.Told.{IsPrefixOf}
 use Rattle.vs_log.specs.Meaning.{log_meant}
 use Rattle.vs_entries.specs.Rules.{rules_of}
-use Rattle.vs_model.specs.Logs.{Cluster, log_of, due, stop}
+use Rattle.vs_model.specs.Logs.{Cluster, log_of}
 use Rattle.vs_model.specs.Vectors.{Vector, Streams}
 use Rattle.vs_model.specs.Frames.{Frame, last_vector}
 use Rattle.vs_model.specs.Copy.{Filter}

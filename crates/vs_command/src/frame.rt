@@ -24,7 +24,9 @@ use vs_wire::{put_bytes, put_number};
 
 /// The kinds of events, as `binlogdata.proto` numbers them.
 const DDL_EVENT: u64 = 5;
+
 const OTHER_EVENT: u64 = 11;
+
 const VGTID_EVENT: u64 = 15;
 
 fn put_optional_number(
@@ -141,11 +143,7 @@ fn other_event(alloc: Global, name: &ShardName, time: u32) -> Result<Vec<u8>, Ou
 }
 
 /// The event that ends the frame of an entry.
-fn closing_event(
-    alloc: Global,
-    name: &ShardName,
-    entry: &Entry,
-) -> Result<Vec<u8>, OutOfMemory>
+fn closing_event(alloc: Global, name: &ShardName, entry: &Entry) -> Result<Vec<u8>, OutOfMemory>
     requires { IsStatement entry.now.work }
     ensures { IfOk result (λ v. option_map (event_bytes name.now entry.now.time) (closing_of entry.now.work) ≡ Some v.items) }
 {

@@ -3,7 +3,6 @@
 mod clock;
 mod feed;
 mod folder;
-mod lawful;
 mod listing;
 mod openings;
 mod path;

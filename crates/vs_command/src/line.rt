@@ -1,4 +1,3 @@
-ghost use Rattle.std.specs.List.{list_all};
 ghost use Rattle.std.specs.Prelude.{
   ◌≡◌,
   ◌≤◌,
@@ -14,12 +13,6 @@ ghost use Rattle.std.specs.Prelude.{
 ghost use Rattle.std.specs.Cmp.Lexicographic.{pointwise};
 ghost use Rattle.vs_base.specs.declared.ShardName.{ShardName};
 ghost use Rattle.vs_outside.specs.Counts.{Rose};
-ghost use Rattle.vs_outside.specs.Names.{
-  is_keyspace_text,
-  is_name_byte,
-  is_shard_byte,
-  is_shard_text,
-};
 ghost use Rattle.vs_command.specs.Line.{
   Asks,
   BeginsWithLine,
@@ -32,7 +25,7 @@ ghost use Rattle.vs_command.specs.Line.{
 
 use std::alloc::Global;
 use vs_base::{OutOfMemory, ShardName, Text};
-use vs_outside::{Failed, Source};
+use vs_outside::{Failed, Source, names_keyspace, names_shard};
 
 /// Why no request was read.
 #[derive(Debug, Clone, Copy, PartialEq, Eq)]
@@ -97,64 +90,10 @@ fn split_at_byte(bytes: &[u8], byte: u8) -> Option<(&[u8], &[u8])>
     None
 }
 
-fn may_stand_in_name(byte: u8) -> bool
-    ensures { result ≡ is_name_byte byte }
-{
-    matches!(byte, b'a'..=b'z' | b'A'..=b'Z' | b'0'..=b'9' | b'-' | b'_')
-}
-
-fn may_stand_in_shard(byte: u8) -> bool
-    ensures { result ≡ is_shard_byte byte }
-{
-    may_stand_in_name(byte) || byte == b'.'
-}
-
-fn all_stand_in_names(text: &[u8]) -> bool
-    ensures { result ≡ list_all is_name_byte text.now }
-{
-    text.iter().all(|b| may_stand_in_name(*b))
-}
-
-fn all_stand_in_shards(text: &[u8]) -> bool
-    ensures { result ≡ list_all is_shard_byte text.now }
-{
-    text.iter().all(|b| may_stand_in_shard(*b))
-}
-
 fn is_same(a: &[u8], b: &[u8]) -> bool
     ensures { result ≡ pointwise nat_eq a.now b.now }
 {
     a == b
-}
-
-fn may_name_keyspace(text: &[u8]) -> bool
-    ensures { result ≡ is_keyspace_text text.now }
-{
-    if text.is_empty() {
-        return false;
-    }
-    if text.len() > 64 {
-        return false;
-    }
-    all_stand_in_names(text)
-}
-
-fn may_name_shard(text: &[u8]) -> bool
-    ensures { result ≡ is_shard_text text.now }
-{
-    if text.is_empty() {
-        return false;
-    }
-    if text.len() > 64 {
-        return false;
-    }
-    if is_same(text, b".") {
-        return false;
-    }
-    if is_same(text, b"..") {
-        return false;
-    }
-    all_stand_in_shards(text)
 }
 
 /// The shard that a line asks for, where the line is one that asks.
@@ -170,10 +109,10 @@ fn asked_name(alloc: Global, line: &[u8]) -> Result<Option<ShardName>, OutOfMemo
     if !is_same(position, b"MySQL56/") {
         return Ok(None);
     }
-    if !may_name_keyspace(keyspace) {
+    if !names_keyspace(keyspace) {
         return Ok(None);
     }
-    if !may_name_shard(shard) {
+    if !names_shard(shard) {
         return Ok(None);
     }
     let keyspace = Text::from_bytes(alloc, keyspace)?;

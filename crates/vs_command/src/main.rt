@@ -9,5 +9,53 @@ mod run;
 mod sending;
 mod status;
 mod streaming;
+#[cfg(test)]
+mod tests;
 
-fn main() {}
+use crate::host::{FolderTablets, HostClock, StdSink, StdSource};
+use crate::run::run;
+use crate::status::Status;
+use std::alloc::Global;
+use std::process::ExitCode;
+use std::{env, io};
+
+/// The words of the command line, behind the program's name.
+fn words_of<R: std::rt::Env + AllocGlobal>(rt: &R) -> io::Result<Vec<String>> {
+    let mut words = Vec::new(rt.alloc());
+    for word in env::args(rt)?.skip(1) {
+        words.push(word)?;
+    }
+    Ok(words)
+}
+
+/// Prints why the session did not end well.
+fn tell<R: Eprint>(rt: &R, alloc: Global, status: &Status) {
+    if let Ok(line) = status.line(alloc) {
+        if let Ok(text) = std::str::from_utf8(line.as_bytes()) {
+            let _ = eprintln!(rt; "{text}");
+        }
+    }
+}
+
+fn main(rt: HostRuntime) -> io::Result<ExitCode> {
+    let alloc = rt.alloc();
+    let mut input = StdSource::new(&rt);
+    let mut output = StdSink::new(rt.clone()?);
+    let mut tablets = FolderTablets::new(rt.clone()?, alloc);
+    let mut clock = HostClock::new(rt.clone()?);
+    let words = words_of(&rt).unwrap_or(Vec::new(alloc));
+    let status = run(
+        &rt,
+        alloc,
+        &words,
+        &mut input,
+        &mut output,
+        &mut tablets,
+        &mut clock,
+    );
+    let number = status.number();
+    if number != 0 {
+        tell(&rt, alloc, &status);
+    }
+    Ok(ExitCode::from(number))
+}

@@ -6,7 +6,6 @@ ghost use Rattle.std.specs.Cmp.Lexicographic.{slice_cmp};
 ghost use Rattle.vs_outside.specs.Clusters.{IsListing};
 ghost use Rattle.vs_outside.specs.Names.{is_shard_text};
 
-use crate::host::lawful::may_name_shard;
 use crate::host::path::folder_path;
 use std::alloc::Global;
 use std::collections::BTreeSet;
@@ -14,7 +13,7 @@ use std::io::ErrorKind;
 use std::rt::Files;
 use std::{fs, io};
 use vs_base::{OutOfMemory, Text};
-use vs_outside::AskEnd;
+use vs_outside::{AskEnd, names_shard};
 
 /// A failed call for want of memory is no fault of the folder.
 pub fn end_of(error: &io::Error) -> AskEnd {
@@ -32,7 +31,7 @@ fn shard_of(alloc: Global, file: &str) -> Result<Option<Text>, OutOfMemory>
     let Some(shard) = file.strip_suffix(".binlog") else {
         return Ok(None);
     };
-    if !may_name_shard(shard.as_bytes()) {
+    if !names_shard(shard.as_bytes()) {
         return Ok(None);
     }
     Ok(Some(Text::from_bytes(alloc, shard.as_bytes())?))

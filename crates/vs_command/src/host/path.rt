@@ -1,7 +1,6 @@
-use crate::host::lawful::{may_name_keyspace, may_name_shard};
 use std::alloc::Global;
 use vs_base::ShardName;
-use vs_outside::AskEnd;
+use vs_outside::{AskEnd, names_keyspace, names_shard};
 
 /// The path of a file of a shard, or none where the name is not a lawful one.
 pub fn file_path(
@@ -12,7 +11,7 @@ pub fn file_path(
 ) -> Result<Option<String>, AskEnd> {
     let keyspace = name.keyspace.as_bytes();
     let shard = name.shard.as_bytes();
-    if !may_name_keyspace(keyspace) || !may_name_shard(shard) {
+    if !names_keyspace(keyspace) || !names_shard(shard) {
         return Ok(None);
     }
     let (Ok(keyspace), Ok(shard)) = (str::from_utf8(keyspace), str::from_utf8(shard)) else {
@@ -26,7 +25,7 @@ pub fn file_path(
 
 /// The path of the folder of a keyspace, or none where the name is not a lawful one.
 pub fn folder_path(alloc: Global, folder: &str, keyspace: &[u8]) -> Result<Option<String>, AskEnd> {
-    if !may_name_keyspace(keyspace) {
+    if !names_keyspace(keyspace) {
         return Ok(None);
     }
     let Ok(keyspace) = str::from_utf8(keyspace) else {

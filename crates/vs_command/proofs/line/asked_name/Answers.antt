@@ -15,18 +15,18 @@ returns-then-not-is_same c =
     asks-other-position c.args.line.now c.in-Some.keyspace.now c.in-Some.rest.now c.in-Some-split_at_byte.shard.now c.in-Some-split_at_byte.position.now (codes "MySQL56/")
     c.in-Some.ensures c.in-Some-split_at_byte.ensures refl (sym c.is_same.ensures ∙ c.if-not-is_same.true)
 
-pub returns-then-not-may_name_keyspace : goal.returns-then-not-may_name_keyspace
-returns-then-not-may_name_keyspace c =
-    asks-other-keyspace c.args.line.now c.in-Some.keyspace.now c.in-Some.rest.now c.in-Some.ensures (sym c.may_name_keyspace.ensures ∙ c.if-not-may_name_keyspace.true)
+pub returns-then-not-names_keyspace : goal.returns-then-not-names_keyspace
+returns-then-not-names_keyspace c =
+    asks-other-keyspace c.args.line.now c.in-Some.keyspace.now c.in-Some.rest.now c.in-Some.ensures (sym c.names_keyspace.ensures ∙ c.if-not-names_keyspace.true)
 
-pub returns-then-not-may_name_shard : goal.returns-then-not-may_name_shard
-returns-then-not-may_name_shard c =
+pub returns-then-not-names_shard : goal.returns-then-not-names_shard
+returns-then-not-names_shard c =
     asks-other-shard c.args.line.now c.in-Some.keyspace.now c.in-Some.rest.now c.in-Some-split_at_byte.shard.now c.in-Some-split_at_byte.position.now c.in-Some.ensures c.in-Some-split_at_byte.ensures
-    (sym c.may_name_shard.ensures ∙ c.if-not-may_name_shard.true)
+    (sym c.names_shard.ensures ∙ c.if-not-names_shard.true)
 
 pub returns : goal.returns
 returns c =
     line-named c.args.line.now c.in-Some.keyspace.now c.in-Some.rest.now c.in-Some-split_at_byte.shard.now c.in-Some-split_at_byte.position.now (codes "MySQL56/") _ _ c.new.result
     c.in-Some.ensures c.in-Some-split_at_byte.ensures refl (sym c.is_same.ensures ∙ c.if-not-is_same.false)
-    (sym c.may_name_keyspace.ensures ∙ c.if-not-may_name_keyspace.false) (sym c.may_name_shard.ensures ∙ c.if-not-may_name_shard.false)
+    (sym c.names_keyspace.ensures ∙ c.if-not-names_keyspace.false) (sym c.names_shard.ensures ∙ c.if-not-names_shard.false)
     c.in_ok-keyspace.ensures c.in_ok-shard.ensures c.new.ensures

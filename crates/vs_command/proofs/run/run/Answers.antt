@@ -1,4 +1,4 @@
-use Rattle.std.proofs.Common.{◌≡◌, ap, ◌∙◌, sym, refl, subst, ◌≤◌}
+use Rattle.std.proofs.Common.{subst}
 use Rattle.vs_outside.specs.Counts.{Rose}
 use Rattle.vs_command.proofs.AnswerLemmas.{headline_answers}
 use Rattle.vs_command.proofs.run.run.Goals as goal

@@ -1,4 +1,4 @@
-use Rattle.std.proofs.Common.{◌≡◌, ap, ◌∙◌, sym, refl, subst}
+use Rattle.std.proofs.Common.{◌∙◌, refl}
 use Rattle.vs_command.proofs.AnswerLemmas.{Writes-streamed, Writes-unanswered, told_always, told_so}
 use Rattle.vs_command.proofs.run.stream_shard.Goals as goal
 
