@@ -8,7 +8,8 @@ use vs_outside::{
 
 /// A format description, an empty base, and the statements `drop table t` (time 100) and
 /// `drop table s` (time 101) in `vt_c`, of the GTIDs 1 and 2.
-const LOG: [u8; 298] = *b"\xfe\x62\x69\x6e\x00\x00\x00\x00\x0f\x01\x00\x00\x00\x51\x00\x00\x00\x00\x00\x00\
+const LOG: [u8; 298] =
+    *b"\xfe\x62\x69\x6e\x00\x00\x00\x00\x0f\x01\x00\x00\x00\x51\x00\x00\x00\x00\x00\x00\
     \x00\x00\x00\x04\x00\x00\x00\x00\x00\x00\x00\x00\x00\x00\x00\x00\x00\x00\x00\x00\
     \x00\x00\x00\x00\x00\x00\x00\x00\x00\x00\x00\x00\x00\x00\x00\x00\x00\x00\x00\x00\
     \x00\x00\x00\x00\x00\x00\x00\x00\x00\x00\x00\x00\x00\x00\x00\x00\x00\x00\x00\x13\
@@ -25,7 +26,8 @@ const LOG: [u8; 298] = *b"\xfe\x62\x69\x6e\x00\x00\x00\x00\x0f\x01\x00\x00\x00\x
     \x00\x76\x74\x5f\x63\x00\x64\x72\x6f\x70\x20\x74\x61\x62\x6c\x65\x20\x73";
 
 /// Their two frames.
-const FRAMES: [u8; 210] = *b"\x00\x00\x00\x64\x0a\x46\x08\x0f\x10\x64\x3a\x38\x0a\x36\x0a\x01\x63\x12\x01\x30\
+const FRAMES: [u8; 210] =
+    *b"\x00\x00\x00\x64\x0a\x46\x08\x0f\x10\x64\x3a\x38\x0a\x36\x0a\x01\x63\x12\x01\x30\
     \x1a\x2e\x4d\x79\x53\x51\x4c\x35\x36\x2f\x30\x30\x30\x30\x30\x30\x30\x30\x2d\x30\
     \x30\x30\x30\x2d\x30\x30\x30\x30\x2d\x30\x30\x30\x30\x2d\x30\x30\x30\x30\x30\x30\
     \x30\x30\x30\x30\x30\x31\x3a\x31\xb2\x01\x01\x63\xba\x01\x01\x30\x0a\x1a\x08\x05\
@@ -39,9 +41,11 @@ const FRAMES: [u8; 210] = *b"\x00\x00\x00\x64\x0a\x46\x08\x0f\x10\x64\x3a\x38\x0
 
 /// How many bytes of the log stand before its first entry, and before its second.
 const FRONT: usize = 112;
+
 const FIRST: usize = 205;
 
 /// What happens to a stream over memory.
+#[derive(Clone, Copy)]
 struct Case<'a> {
     line: &'a [u8],
     log: &'a [u8],
@@ -64,6 +68,7 @@ fn plain(log: &[u8]) -> Case<'_> {
 }
 
 /// The number of the status, its line, and what was written.
+#[derive(Drop)]
 struct Outcome {
     number: u8,
     line: Text,
@@ -95,7 +100,15 @@ fn outcome_of<R: Wait>(
     let mut input = MemSource::new(alloc, case.line, &[case.input_fails])?;
     let mut output = MemSink::new(alloc, case.sink)?;
     let mut clock = MemClock::new(alloc, &[])?;
-    let status = run(rt, alloc, words, &mut input, &mut output, &mut tablets, &mut clock);
+    let status = run(
+        rt,
+        alloc,
+        words,
+        &mut input,
+        &mut output,
+        &mut tablets,
+        &mut clock,
+    );
     Ok(Outcome {
         number: status.number(),
         line: status.line(alloc)?,
@@ -132,7 +145,10 @@ fn a_fault_comes_after_the_frames_before_it(rt: HostRuntime) -> Result<(), Alloc
     log.extend_from_slice(&[0, 0, 0, 0, 2, 1, 0, 0, 0, 18, 0, 0, 0, 0, 0, 0, 0, 0, 0])?;
     let bad = outcome_of(&rt, alloc, &words, &plain(&log))?;
     assert_eq!(rt; bad.number, 6);
-    assert_eq!(rt; bad.line.as_bytes(), b"bad log c/0 at 205: bad length 18".as_slice());
+    assert_eq!(rt;
+        bad.line.as_bytes(),
+        b"bad log c/0 at 205: bad length 18".as_slice()
+    );
     assert_eq!(rt; bad.written.as_bytes(), &FRAMES[..104]);
     let cut = outcome_of(
         &rt,
@@ -156,12 +172,48 @@ fn each_answer_has_its_number(rt: HostRuntime) -> Result<(), AllocError> {
     let usage = outcome_of(&rt, alloc, &none, &plain(&LOG))?;
     assert_eq!(rt; usage.number, 2);
     for (case, number) in [
-        (Case { line: b"c/0 current\n", ..plain(&LOG) }, 3),
-        (Case { line: b"z/0 MySQL56/", ..plain(&LOG) }, 4),
-        (Case { feed: &[FeedAnswer::Give(9), FeedAnswer::Fail], ..plain(&LOG) }, 9),
-        (Case { input_fails: true, ..plain(&LOG) }, 11),
-        (Case { fetch_fails: true, ..plain(&LOG) }, 12),
-        (Case { feed: &[FeedAnswer::Wait, FeedAnswer::Give(1)], ..plain(&LOG) }, 0),
+        (
+            Case {
+                line: b"c/0 current\n",
+                ..plain(&LOG)
+            },
+            3,
+        ),
+        (
+            Case {
+                line: b"z/0 MySQL56/",
+                ..plain(&LOG)
+            },
+            4,
+        ),
+        (
+            Case {
+                feed: &[FeedAnswer::Give(9), FeedAnswer::Fail],
+                ..plain(&LOG)
+            },
+            9,
+        ),
+        (
+            Case {
+                input_fails: true,
+                ..plain(&LOG)
+            },
+            11,
+        ),
+        (
+            Case {
+                fetch_fails: true,
+                ..plain(&LOG)
+            },
+            12,
+        ),
+        (
+            Case {
+                feed: &[FeedAnswer::Wait, FeedAnswer::Give(1)],
+                ..plain(&LOG)
+            },
+            0,
+        ),
     ] {
         assert_eq!(rt; outcome_of(&rt, alloc, &words, &case)?.number, number);
     }
