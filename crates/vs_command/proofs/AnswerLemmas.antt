@@ -86,19 +86,19 @@ finished_at laws cluster s distinct statements sent are base fault =
     }
 
 -- what an answer says of a log, it says of the shard's log
-caused : (cluster : ClusterBytes) (s : ShardName) (log : Log) (status : Status) → log_of (cluster_meant cluster) s ≡ log → HasLogCause s log status → HasCause cluster s status
-caused cluster s log (statuses.Purged name missing) is cause = (cause.0, subst (λ (l : Log). IsFirstMissing l.base [] missing) (sym is) cause.1)
-caused cluster s log (statuses.BadLog name offset why) is cause = (cause.0, ap (λ (l : Log). l.fault) is ∙ cause.1)
-caused cluster s log (statuses.PositionTooLarge name) is cause = (cause.0, subst (λ (l : Log). IsTooLargeBehind [] l.entries) (sym is) cause.1)
-caused cluster s log statuses.Done is cause = tt
-caused cluster s log statuses.Memory is cause = tt
-caused cluster s log statuses.LinkFault is cause = tt
-caused cluster s log statuses.Usage is cause = absurd cause
-caused cluster s log (statuses.Request fault) is cause = absurd cause
-caused cluster s log (statuses.UnknownShard name) is cause = absurd cause
-caused cluster s log (statuses.FeedFault name) is cause = absurd cause
-caused cluster s log statuses.InputFault is cause = absurd cause
-caused cluster s log (statuses.OpenFault name) is cause = absurd cause
+caused : (cluster : ClusterBytes) (s : ShardName) (log : Log) (status : Status) → find_shard cluster s ≢ None → log_of (cluster_meant cluster) s ≡ log → HasLogCause s log status → HasCause cluster s status
+caused cluster s log (statuses.Purged name missing) known is cause = (cause.0, subst (λ (l : Log). IsFirstMissing l.base [] missing) (sym is) cause.1)
+caused cluster s log (statuses.BadLog name offset why) known is cause = (cause.0, ap (λ (l : Log). l.fault) is ∙ cause.1)
+caused cluster s log (statuses.PositionTooLarge name) known is cause = (cause.0, subst (λ (l : Log). IsTooLargeBehind [] l.entries) (sym is) cause.1)
+caused cluster s log statuses.Done known is cause = known
+caused cluster s log statuses.Memory known is cause = tt
+caused cluster s log statuses.LinkFault known is cause = tt
+caused cluster s log statuses.Usage known is cause = absurd cause
+caused cluster s log (statuses.Request fault) known is cause = absurd cause
+caused cluster s log (statuses.UnknownShard name) known is cause = absurd cause
+caused cluster s log (statuses.FeedFault name) known is cause = absurd cause
+caused cluster s log statuses.InputFault known is cause = absurd cause
+caused cluster s log (statuses.OpenFault name) known is cause = absurd cause
 
 pub Answers-streamed : Laws → (cluster : ClusterBytes) (s : ShardName) (shard : Shard) (status : Status) (written : List ℕ) → find_shard cluster s ≡ Some shard →
     IsStreamed s (shard_log s shard.log) status written → HasLogCause s (shard_log s shard.log) status → Answers cluster s status written
@@ -129,7 +129,7 @@ Answers-streamed laws cluster s shard status written found streamed cause =
           let whole : log.fault ≡ None = ap (λ (l : Log). l.fault) meant ∙ end.2 in
           subst (λ v. IsFinished (cluster_meant cluster) v) (sym (last_sent s [] streamed.sent))
           (finished_at laws (cluster_meant cluster) s distinct statements streamed.sent all within whole);
-      cause = caused cluster s (shard_log s shard.log) status meant cause;
+      cause = caused cluster s (shard_log s shard.log) status (λ absent. let clash : ◌≡◌ {A = Option Shard} (Some shard) None = sym found ∙ absent in cc) meant cause;
     }
 
 -- nothing was written, and nothing is promised

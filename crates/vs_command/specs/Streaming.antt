@@ -40,7 +40,7 @@ pub record IsFinished (cluster : Cluster) (v : Vector) : Type 0 where
   pub settled : IsSettled cluster v
   pub readable : (s : ShardName) (p : Position) → Streams v s p → IsSubset (log_of cluster s).base p × ((log_of cluster s).fault ≡ None)
 
--- What an answer says of the shard that was asked for and of its log; of the other answers nothing is said here.
+-- What an answer says of the shard that was asked for and of its log; of the others nothing is said here.
 abbrev pub HasCause : ClusterBytes → ShardName → Status → Type 0
 HasCause cluster s (UnknownShard name) = (name ≡ s) × (find_shard cluster s ≡ None)
 HasCause cluster s (Purged name missing) = (name ≡ s) × IsFirstMissing (log_of (cluster_meant cluster) s).base [] missing
@@ -48,7 +48,7 @@ HasCause cluster s (BadLog name offset why) = (name ≡ s) × ((log_of (cluster_
 HasCause cluster s (PositionTooLarge name) = (name ≡ s) × IsTooLargeBehind [] (log_of (cluster_meant cluster) s).entries
 HasCause cluster s (FeedFault name) = name ≡ s
 HasCause cluster s (OpenFault name) = name ≡ s
-HasCause cluster s Done = Unit {0}
+HasCause cluster s Done = find_shard cluster s ≢ None
 HasCause cluster s Memory = Unit {0}
 HasCause cluster s Usage = Unit {0}
 HasCause cluster s (Request fault) = Unit {0}
