@@ -1,7 +1,10 @@
 use crate::run::run;
 use std::alloc::{AllocError, Global};
 use std::sync::Wait;
-use vs_base::{ShardName, Text};
+use vs_base::{Column, ColumnKind, Gtid, List, ShardName, Text};
+use vs_gtid::{
+    Entry, GtidSet, JournalValue, Successor, Work, law_added, law_equal_sets, law_united,
+};
 use vs_outside::{
     FeedAnswer, MemClock, MemSink, MemSource, MemTablets, SinkAnswer, names_keyspace, names_shard,
 };
@@ -217,5 +220,45 @@ fn each_answer_has_its_number(rt: HostRuntime) -> Result<(), AllocError> {
     ] {
         assert_eq!(rt; outcome_of(&rt, alloc, &words, &case)?.number, number);
     }
+    Ok(())
+}
+
+#[test]
+fn entries_and_columns_are_copied(rt: HostRuntime) -> Result<(), AllocError> {
+    let alloc = rt.alloc();
+    let gtid = Gtid::new([1; 16], 5).ok_or(AllocError)?;
+    let entry = Entry {
+        gtid,
+        time: 100,
+        work: Work::Other,
+    };
+    assert_eq!(rt; entry.copy(alloc)?.time, 100);
+    let column = Column {
+        name: Text::from_bytes(alloc, b"id")?,
+        kind: ColumnKind::Date,
+    };
+    assert_eq!(rt; column.copy(alloc)?.kind, ColumnKind::Date);
+    Ok(())
+}
+
+#[test]
+fn journals_are_copied(rt: HostRuntime) -> Result<(), AllocError> {
+    let alloc = rt.alloc();
+    law_added();
+    law_united();
+    law_equal_sets();
+    let journal = JournalValue {
+        id: 7,
+        shards: true,
+        participants: List::new(alloc),
+        successors: List::new(alloc),
+    };
+    assert_eq!(rt; journal.copy(alloc)?.id, 7);
+    let keyspace = Text::from_bytes(alloc, b"c")?;
+    let successor = Successor {
+        name: ShardName::new(keyspace, Text::new(alloc)).ok_or(AllocError)?,
+        position: GtidSet::new(alloc),
+    };
+    assert_eq!(rt; successor.copy(alloc)?.position.intervals(), 0);
     Ok(())
 }
