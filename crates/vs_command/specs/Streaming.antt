@@ -70,6 +70,21 @@ IsOfStream LinkFault = Unit {0}
 IsOfStream (OpenFault name) = Unit {0}
 IsOfStream (PositionTooLarge name) = Unit {0}
 
+-- the answers that come before a stream begins
+abbrev pub IsBeforeStream : Status → Type 0
+IsBeforeStream Usage = Unit {0}
+IsBeforeStream (Request fault) = Unit {0}
+IsBeforeStream InputFault = Unit {0}
+IsBeforeStream Memory = Unit {0}
+IsBeforeStream Done = ⊥
+IsBeforeStream (UnknownShard name) = ⊥
+IsBeforeStream (Purged name missing) = ⊥
+IsBeforeStream (BadLog name offset why) = ⊥
+IsBeforeStream (FeedFault name) = ⊥
+IsBeforeStream LinkFault = ⊥
+IsBeforeStream (OpenFault name) = ⊥
+IsBeforeStream (PositionTooLarge name) = ⊥
+
 -- What was written for a shard, from the empty position: the bytes of legal frames, or a beginning of them where the link failed.
 -- Where the stream is done, it is finished.
 pub record Answers (cluster : ClusterBytes) (name : ShardName) (status : Status) (written : List ℕ) : Type 0 where
@@ -113,7 +128,7 @@ HasLogCause s log (FeedFault name) = ⊥
 HasLogCause s log InputFault = ⊥
 HasLogCause s log (OpenFault name) = ⊥
 
--- The headline: what is written answers the line at the front of the input, or nothing is written and the stream isn't done.
+-- The headline: what is written answers the line at the front of the input, or nothing is written and the answer came before any stream.
 pub data Headline (cluster : ClusterBytes) (input : List ℕ) (status : Status) (written : List ℕ) : Type 0 where
   answers : (name : ShardName) → Asks input name → Answers cluster name status written → Headline cluster input status written
-  silent : written ≡ [] → status ≢ Done → Headline cluster input status written
+  silent : written ≡ [] → IsBeforeStream status → Headline cluster input status written
