@@ -1,18 +1,15 @@
 -- How a reader stands for a state of a log's table, and what its answers say of the log's meaning.
-use Rattle.std.specs.Prelude.{◌≡◌, ◌≤◌, ◌<◌, ◌+◌, ℕ, true, if◌then◌else◌, List, length, take, drop, Option, Some, None, Result, Ok, Err}
+use Rattle.std.specs.Prelude.{◌≡◌, ◌≤◌, ◌<◌, ◌+◌, ℕ, nat_lt, true, if◌then◌else◌, List, [], length, take, drop, Option, Some, None, Result, Ok, Err}
 use Rattle.vs_base.specs.declared.Gtid.{Gtid}
 use Rattle.vs_base.specs.declared.Why.{Why}
-use Rattle.vs_base.specs.declared.Why.TheVariants.{NotBuilt, UnsupportedStatement}
-use Rattle.vs_gtid.specs.declared.Work.{Work}
-use Rattle.vs_gtid.specs.declared.Work.TheVariants.{Other}
+use Rattle.vs_base.specs.declared.Why.TheVariants.{BadEvent}
+use Rattle.vs_gtid.specs.declared.Work.TheVariants.{Rows}
 use Rattle.vs_gtid.specs.Logs.{Log}
-use Rattle.vs_log.specs.declared.state.Statement.{Statement}
-use Rattle.vs_log.specs.declared.state.Statement.TheVariants.{Begin, Commit, Savepoint, Xa, Single}
 use Rattle.vs_log.specs.declared.state.Place.{Place}
 use Rattle.vs_log.specs.declared.state.Place.TheVariants as place
 use Rattle.vs_log.specs.declared.state.State.{State}
 use Rattle.vs_log.specs.Events.{Event, body_of, length_of, is_held, last_place}
-use Rattle.vs_log.specs.Table.{Rules, step, with_base, new_gtid, named, ended, ◌>>=◌}
+use Rattle.vs_log.specs.Table.{Rules, step, with_base, ended, new_gtid, named, first_query, later_query, ◌>>=◌}
 use Rattle.vs_log.specs.Queries.{statement_of}
 use Rattle.vs_gtid.specs.Block.{block_of}
 use Rattle.vs_entries.specs.Rules.{base_of}
@@ -21,7 +18,7 @@ use Rattle.vs_entries.specs.declared.log.LogFault.{LogFault}
 use Rattle.vs_entries.specs.declared.log.LogRead.{LogRead}
 use Rattle.vs_entries.specs.declared.reader.Reader.{Reader}
 use Rattle.vs_entries.specs.declared.reader.Standing.{Standing}
-use Rattle.vs_entries.specs.declared.reader.Standing.TheVariants.{Front, Between, Named}
+use Rattle.vs_entries.specs.declared.reader.Standing.TheVariants.{Front, Between, Named, Inside}
 use Rattle.vs_entries.specs.declared.reader.Turn.{Turn}
 use Rattle.vs_entries.specs.declared.reader.Turn.TheVariants.{Went, Ended}
 use Rattle.vs_entries.specs.declared.refusal.Refusal.{Refusal}
@@ -45,6 +42,7 @@ abbrev pub place_of : Standing → Place
 place_of Front = place.Front
 place_of (Between first) = place.Between first
 place_of (Named gtid bytes) = place.Named gtid bytes
+place_of (Inside gtid bytes) = place.Inside gtid bytes [] (Rows [])
 
 -- where the reader stands, as a state of the table
 abbrev pub state_of : Reader → State
@@ -56,15 +54,6 @@ Takes (Ok x) old new meant = meant ≡ Ok (state_of new)
 Takes (Err (Wrong why)) old new meant = (meant ≡ Err why) × (new ≡ old)
 Takes (Err Memory) old new meant = Unit {0}
 
--- what a query that follows a GTID event did
-abbrev pub single_of : Result Statement Why → Result Work Why
-single_of (Ok Begin) = Err NotBuilt
-single_of (Ok Xa) = Err UnsupportedStatement
-single_of (Ok Commit) = Ok Other
-single_of (Ok Savepoint) = Ok Other
-single_of (Ok (Single work)) = Ok work
-single_of (Err why) = Err why
-
 -- the log with the base that a PREVIOUS_GTIDS event tells
 abbrev pub with_previous : State → Event → Result State Why
 with_previous s e = base_of (block_of (body_of e)) >>= λ set. Ok (with_base s set)
@@ -73,9 +62,17 @@ with_previous s e = base_of (block_of (body_of e)) >>= λ set. Ok (with_base s s
 abbrev pub with_gtid : State → Event → Result State Why
 with_gtid s e = new_gtid s.known (body_of e) >>= λ g. Ok (named s e g)
 
--- the log with the entry of this GTID, which a query ends
-abbrev pub with_query : List ℕ → State → Event → Gtid → Result State Why
-with_query keyspace s e g = single_of (statement_of keyspace (body_of e)) >>= λ work. Ok (ended s e g work)
+-- the log with a query behind the GTID event of an entry, which has so many bytes
+abbrev pub with_query : List ℕ → State → Event → Gtid → ℕ → Result State Why
+with_query keyspace s e g bytes = statement_of keyspace (body_of e) >>= first_query s e g bytes
+
+-- the log with a query inside a transaction that has changed no row
+abbrev pub with_later_query : List ℕ → State → Event → Gtid → ℕ → Result State Why
+with_later_query keyspace s e g bytes = statement_of keyspace (body_of e) >>= later_query s e g bytes [] (Rows [])
+
+-- the log with an XID event, which ends such a transaction
+abbrev pub with_xid : State → Event → Gtid → Result State Why
+with_xid s e g = if nat_lt (length (body_of e)) 8 then Err (BadEvent 16) else Ok (ended s e g (Rows []))
 
 -- the event stands whole at the front of the rest, which begins at this place
 pub record IsFrontEvent (at : ℕ) (rest e : List ℕ) : Type 0 where

@@ -1,7 +1,7 @@
 //! Reads the bytes of a shard's log: its base, its transactions, and what is wrong with it.
 //!
-//! A log is a binlog file of MySQL, version 4. This release reads single statements; a transaction of
-//! rows is refused.
+//! A log is a binlog file of MySQL, version 4. This release reads single statements
+//! and transactions that change no row; a table map or a rows event is refused.
 #![tactic(auto)]
 
 mod body;
@@ -15,5 +15,5 @@ mod refusal;
 mod tests;
 mod word;
 
-pub use laws::law_statements;
+pub use laws::law_built;
 pub use log::{LogFault, LogRead, read_log};

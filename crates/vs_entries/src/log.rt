@@ -1,5 +1,5 @@
 ghost use Rattle.std.specs.Prelude.{◌≡◌, IfOk};
-ghost use Rattle.vs_log.specs.Meaning.{has_magic, log_meant};
+ghost use Rattle.vs_log.specs.Meaning.{has_magic, knows_base, log_meant};
 ghost use Rattle.vs_entries.specs.Reading.{read_as};
 ghost use Rattle.vs_entries.specs.Rules.{rules_of};
 
@@ -25,11 +25,15 @@ pub struct LogRead {
     pub base: GtidSet,
     pub entries: List<Entry>,
     pub fault: Option<LogFault>,
+    /// whether the log tells its base already: the first event after the format description that
+    /// isn't passed over was whole, or was refused
+    pub base_known: bool,
 }
 
 /// Reads the log of a shard of the keyspace, from its first byte on.
 pub fn read_log(alloc: Global, log: &[u8], keyspace: &[u8]) -> Result<LogRead, OutOfMemory>
-    ensures { IfOk result (λ read. read_as read ≡ log_meant (rules_of keyspace.now) log.now) }
+    ensures means { IfOk result (λ read. read_as read ≡ log_meant (rules_of keyspace.now) log.now) }
+    ensures base { IfOk result (λ read. read.base_known ≡ knows_base (rules_of keyspace.now) log.now) }
 {
     let mut reader = Reader::new(alloc);
     if !begins_as_log(log) {

@@ -1,7 +1,7 @@
 ghost use Rattle.std.specs.Prelude.{◌≡◌, IfOk, map, nat_eq};
 ghost use Rattle.std.specs.Cmp.Lexicographic.{pointwise};
 ghost use Rattle.vs_log.specs.Queries.{first_word, is_ddl, said, schema_of, statement_of, upper};
-ghost use Rattle.vs_entries.specs.Reading.{Answers, single_of};
+ghost use Rattle.vs_entries.specs.Reading.{Answers};
 
 use crate::refusal::Refusal;
 use crate::word::{first_word_in, is_same_word};
@@ -13,7 +13,7 @@ use vs_log::Statement;
 
 /// What the body of a query event says in the log of a shard of the keyspace.
 #[tactic(auto, unfolding(vs_log::specs::Queries::statement_of))]
-fn read_statement(alloc: Global, body: &[u8], keyspace: &[u8]) -> Result<Statement, Refusal>
+pub fn read_statement(alloc: Global, body: &[u8], keyspace: &[u8]) -> Result<Statement, Refusal>
     ensures { Answers result (statement_of keyspace.now body.now) }
 {
     if body.len() < 14 {
@@ -34,19 +34,6 @@ fn read_statement(alloc: Global, body: &[u8], keyspace: &[u8]) -> Result<Stateme
         &rest[schema_length + 1..],
         keyspace,
     )?)
-}
-
-/// What a query event behind a GTID event did, in the log of a shard of the keyspace.
-pub fn read_work(alloc: Global, body: &[u8], keyspace: &[u8]) -> Result<Work, Refusal>
-    ensures { Answers result (single_of (statement_of keyspace.now body.now)) }
-{
-    match read_statement(alloc, body, keyspace)? {
-        Statement::Begin => Err(Refusal::Wrong(Why::NotBuilt)),
-        Statement::Xa => Err(Refusal::Wrong(Why::UnsupportedStatement)),
-        Statement::Commit => Ok(Work::Other),
-        Statement::Savepoint => Ok(Work::Other),
-        Statement::Single(work) => Ok(work),
-    }
 }
 
 /// What a statement under a default schema says in the log of a shard of the keyspace.

@@ -1,18 +1,18 @@
-ghost use Rattle.std.specs.Prelude.{◌≡◌, ◌≤◌, [], IfOk, MatchOption, false, length};
-ghost use Rattle.vs_log.specs.Events.{is_held, last_place, sort_of};
-ghost use Rattle.vs_log.specs.Meaning.{front, head_refusal, log_of};
-ghost use Rattle.vs_log.specs.Table.{bytes_with, line, size, step};
+ghost use Rattle.std.specs.Prelude.{◌≡◌, ◌≤◌, ◌+◌, [], IfOk, MatchOption, Ok, false, length};
+ghost use Rattle.vs_log.specs.Events.{is_held, last_place, length_of, limit, sort_of};
+ghost use Rattle.vs_log.specs.Meaning.{front, head_refusal, is_base_known, log_of};
+ghost use Rattle.vs_log.specs.Table.{bytes_with, ended, line, size, step};
 ghost use Rattle.vs_entries.specs.Reading.{IsFrontEvent};
 
 use crate::body::{format_fault, read_base, read_gtid};
 use crate::event::{HEAD, kind, sort_in, time, total_length};
 use crate::log::{LogFault, LogRead};
-use crate::query::read_work;
+use crate::query::read_statement;
 use crate::refusal::Refusal;
 use std::alloc::{AllocError, Global};
 use vs_base::{Gtid, List, OutOfMemory, Why};
-use vs_gtid::{Entry, GtidRefusal, GtidSet};
-use vs_log::Sort;
+use vs_gtid::{Entry, GtidRefusal, GtidSet, Work};
+use vs_log::{Sort, Statement};
 
 /// The greatest number of bytes of an event, and of the events of an entry together.
 const LIMIT: u64 = 8_388_608;
@@ -29,6 +29,8 @@ pub enum Standing {
     Between { first: bool },
     /// behind the GTID event of an entry, of so many bytes
     Named { gtid: Gtid, bytes: u32 },
+    /// behind the BEGIN of a transaction of so many bytes, which has changed no row
+    Inside { gtid: Gtid, bytes: u32 },
 }
 
 /// What a reader has of a log's events so far.
@@ -59,6 +61,7 @@ impl Standing {
             Standing::Front => 0,
             Standing::Between { .. } => 0,
             Standing::Named { bytes, .. } => *bytes,
+            Standing::Inside { bytes, .. } => *bytes,
         }
     }
 
@@ -123,8 +126,9 @@ fn front_event(rest: &[u8], at: usize) -> Option<&[u8]>
 }
 
 impl Reader {
-    ghost use Rattle.vs_log.specs.declared.state.Place.TheVariants.{Between, Front, Named};
-    ghost use Rattle.vs_entries.specs.Reading.{Takes, Turned, read_as, state_of, with_gtid, with_previous, with_query};
+    ghost use Rattle.vs_log.specs.declared.state.Place.TheVariants.{Between, Front, Inside, Named};
+    ghost use Rattle.vs_gtid.specs.declared.entry.Work.TheVariants.{Rows};
+    ghost use Rattle.vs_entries.specs.Reading.{Takes, Turned, place_of, read_as, state_of, with_gtid, with_later_query, with_previous, with_query, with_xid};
     ghost use Rattle.vs_entries.specs.Rules.{rules_of};
 
     pub fn new(alloc: Global) -> Reader
@@ -140,12 +144,19 @@ impl Reader {
 
     /// The log that ends so, as it was read.
     pub fn end(self, at: usize, why: Option<Why>) -> LogRead
-        ensures { read_as result ≡ log_of (state_of self) at why }
+        ensures log { read_as result ≡ log_of (state_of self) at why }
+        ensures base { result.base_known ≡ is_base_known (place_of self.standing) why }
     {
+        let base_known = match self.standing {
+            Standing::Front => false,
+            Standing::Between { first: true } => why.is_some(),
+            _ => true,
+        };
         let Reader { base, entries, .. } = self;
         LogRead {
             base,
             entries,
+            base_known,
             fault: why.map(|why| LogFault {
                 offset: at as u64,
                 why,
@@ -194,6 +205,9 @@ impl Reader {
             Standing::Front => self.take_first(event),
             Standing::Between { first } => self.take_between(alloc, event, first),
             Standing::Named { gtid, bytes } => self.take_named(alloc, event, keyspace, gtid, bytes),
+            Standing::Inside { gtid, bytes } => {
+                self.take_inside(alloc, event, keyspace, gtid, bytes)
+            }
         }
     }
 
@@ -231,6 +245,7 @@ impl Reader {
     }
 
     /// Takes an event behind the GTID event of an entry.
+    #[tactic(auto, unfolding(vs_log::specs::Table::bytes_with), using(crate::proofs::Lines::sum_with_counted))]
     fn take_named(
         &mut self,
         alloc: Global,
@@ -239,13 +254,39 @@ impl Reader {
         gtid: Gtid,
         bytes: u32,
     ) -> Result<(), Refusal>
-        requires { 19 ≤ length event.now }
+        requires head { 19 ≤ length event.now }
+        requires size { bytes_with (Named gtid bytes) event.now ≤ limit }
         ensures { Takes result self.old self.new (line (rules_of keyspace.now) (state_of self.old) event.now (Named gtid bytes) (sort_of event.now)) }
     {
         match sort_in(event) {
             Sort::AnonymousEvent => Err(Refusal::Wrong(Why::Anonymous)),
             Sort::PassedOver => Ok(()),
-            Sort::QueryEvent => self.take_query(alloc, event, keyspace, gtid),
+            Sort::QueryEvent => self.take_query(alloc, event, keyspace, gtid, bytes),
+            Sort::ForeignEvent => Err(Refusal::Wrong(Why::Unsupported { kind: kind(event) })),
+            _ => Err(Refusal::Wrong(Why::BadOrder { kind: kind(event) })),
+        }
+    }
+
+    /// Takes an event inside a transaction.
+    #[tactic(auto, unfolding(vs_log::specs::Table::bytes_with), using(crate::proofs::Lines::sum_with_counted))]
+    fn take_inside(
+        &mut self,
+        alloc: Global,
+        event: &[u8],
+        keyspace: &[u8],
+        gtid: Gtid,
+        bytes: u32,
+    ) -> Result<(), Refusal>
+        requires head { 19 ≤ length event.now }
+        requires size { bytes_with (Inside gtid bytes [] (Rows [])) event.now ≤ limit }
+        ensures { Takes result self.old self.new (line (rules_of keyspace.now) (state_of self.old) event.now (Inside gtid bytes [] (Rows [])) (sort_of event.now)) }
+    {
+        match sort_in(event) {
+            Sort::AnonymousEvent => Err(Refusal::Wrong(Why::Anonymous)),
+            Sort::PassedOver => Ok(()),
+            Sort::QueryEvent => self.take_later_query(alloc, event, keyspace, gtid, bytes),
+            Sort::XidEvent => self.take_xid(alloc, event, gtid),
+            Sort::MapEvent | Sort::RowsEvent => Err(Refusal::Wrong(Why::NotBuilt)),
             Sort::ForeignEvent => Err(Refusal::Wrong(Why::Unsupported { kind: kind(event) })),
             _ => Err(Refusal::Wrong(Why::BadOrder { kind: kind(event) })),
         }
@@ -291,7 +332,7 @@ impl Reader {
         }
     }
 
-    /// Takes a query event, which ends its entry.
+    /// Takes a query event behind the GTID event of an entry.
     #[tactic(auto, unfolding(vs_log::specs::Events::body_of))]
     fn take_query(
         &mut self,
@@ -299,11 +340,76 @@ impl Reader {
         event: &[u8],
         keyspace: &[u8],
         gtid: Gtid,
+        bytes: u32,
     ) -> Result<(), Refusal>
-        requires { 19 ≤ length event.now }
-        ensures { Takes result self.old self.new (with_query keyspace.now (state_of self.old) event.now gtid) }
+        requires head { 19 ≤ length event.now }
+        requires size { bytes + length_of event.now ≤ limit }
+        ensures { Takes result self.old self.new (with_query keyspace.now (state_of self.old) event.now gtid bytes) }
     {
-        let work = read_work(alloc, &event[HEAD..], keyspace)?;
+        match read_statement(alloc, &event[HEAD..], keyspace)? {
+            Statement::Begin => {
+                self.standing = Standing::Inside {
+                    gtid,
+                    bytes: bytes + total_length(event),
+                };
+                Ok(())
+            }
+            Statement::Xa => Err(Refusal::Wrong(Why::UnsupportedStatement)),
+            Statement::Commit => self.end_entry(event, gtid, Work::Other),
+            Statement::Savepoint => self.end_entry(event, gtid, Work::Other),
+            Statement::Single(work) => self.end_entry(event, gtid, work),
+        }
+    }
+
+    /// Takes a query event inside a transaction.
+    #[tactic(auto, unfolding(vs_log::specs::Events::body_of))]
+    fn take_later_query(
+        &mut self,
+        alloc: Global,
+        event: &[u8],
+        keyspace: &[u8],
+        gtid: Gtid,
+        bytes: u32,
+    ) -> Result<(), Refusal>
+        requires head { 19 ≤ length event.now }
+        requires size { bytes + length_of event.now ≤ limit }
+        ensures { Takes result self.old self.new (with_later_query keyspace.now (state_of self.old) event.now gtid bytes) }
+    {
+        match read_statement(alloc, &event[HEAD..], keyspace)? {
+            Statement::Commit => self.end_entry(event, gtid, Work::Rows(List::new(alloc))),
+            Statement::Savepoint => {
+                self.standing = Standing::Inside {
+                    gtid,
+                    bytes: bytes + total_length(event),
+                };
+                Ok(())
+            }
+            Statement::Begin => Err(Refusal::Wrong(Why::NestedBegin)),
+            Statement::Xa => Err(Refusal::Wrong(Why::UnsupportedStatement)),
+            Statement::Single(work) => {
+                drop(work);
+                Err(Refusal::Wrong(Why::UnsupportedStatement))
+            }
+        }
+    }
+
+    /// Takes an XID event, which ends a transaction.
+    #[tactic(auto, unfolding(vs_log::specs::Events::body_of))]
+    fn take_xid(&mut self, alloc: Global, event: &[u8], gtid: Gtid) -> Result<(), Refusal>
+        requires { 19 ≤ length event.now }
+        ensures { Takes result self.old self.new (with_xid (state_of self.old) event.now gtid) }
+    {
+        if event.len() - HEAD < 8 {
+            return Err(Refusal::Wrong(Why::BadEvent { kind: 16 }));
+        }
+        self.end_entry(event, gtid, Work::Rows(List::new(alloc)))
+    }
+
+    /// Ends the entry with its last event.
+    fn end_entry(&mut self, event: &[u8], gtid: Gtid, work: Work) -> Result<(), Refusal>
+        requires { 19 ≤ length event.now }
+        ensures { Takes result self.old self.new (Ok (ended (state_of self.old) event.now gtid work)) }
+    {
         self.entries.push(Entry {
             gtid,
             time: time(event),

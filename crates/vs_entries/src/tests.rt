@@ -110,6 +110,27 @@ fn tells_a_head_that_is_too_short(rt: HostRuntime) -> Result<(), Fail> {
     Ok(())
 }
 
+/// What a log of one entry came to.
+fn outcome(read: &LogRead) -> &'static str {
+    match (read.entries.as_slice(), &read.fault) {
+        ([entry], None) => match &entry.work {
+            Work::Ddl(_) => "ddl",
+            Work::Other => "other",
+            Work::Rows(_) => "no change",
+            Work::Journal(_) => "journal",
+        },
+        ([], None) => "open",
+        ([], Some(fault)) => match fault.why {
+            Why::UnsupportedStatement => "unsupported",
+            Why::NestedBegin => "nested",
+            Why::NotBuilt => "not built",
+            Why::BadEvent { .. } => "bad event",
+            _ => "another fault",
+        },
+        _ => "more",
+    }
+}
+
 #[test]
 fn tells_statements_apart(rt: HostRuntime) -> Result<(), Fail> {
     let cases = [
@@ -130,25 +151,47 @@ fn tells_statements_apart(rt: HostRuntime) -> Result<(), Fail> {
         (b"vt_c", b"dropped", "other"),
         (b"vt_c", b"", "other"),
         (b"vt_c", b"commit", "other"),
-        (b"vt_c", b"xa start 'x'", "refused"),
-        (b"vt_c", b"begin", "not built"),
+        (b"vt_c", b"xa start 'x'", "unsupported"),
+        (b"vt_c", b"begin", "open"),
     ];
     for (i, (schema, text, wanted)) in cases.into_iter().enumerate() {
         let read = one_statement(rt.alloc(), schema, text)?;
-        let found = match (read.entries.as_slice(), &read.fault) {
-            ([entry], None) => match &entry.work {
-                Work::Ddl(_) => "ddl",
-                Work::Other => "other",
-                _ => "wrong work",
-            },
-            ([], Some(fault)) if fault.offset == 156 => match fault.why {
-                Why::UnsupportedStatement => "refused",
-                Why::NotBuilt => "not built",
-                _ => "wrong fault",
-            },
-            _ => "wrong log",
-        };
-        assert_eq!(rt; found, wanted, "case {i}");
+        assert_eq!(rt; outcome(&read), wanted, "case {i}");
+    }
+    Ok(())
+}
+
+/// A log of one transaction: BEGIN, and an event of this kind and this text or body.
+fn one_transaction(alloc: Global, kind: u8, text: &[u8]) -> Result<LogRead, AllocError> {
+    let mut log = Vec::new(alloc);
+    put_front(&mut log, &[0; 8])?;
+    put_gtid(&mut log, 100, 1)?;
+    put_query(&mut log, 100, b"vt_c", b"BEGIN", alloc)?;
+    if kind == 2 {
+        put_query(&mut log, 101, b"vt_c", text, alloc)?;
+    } else {
+        put_event(&mut log, 101, kind, 0, text)?;
+    }
+    read_log(alloc, log.as_slice(), b"c")
+}
+
+#[test]
+fn tells_transactions_apart(rt: HostRuntime) -> Result<(), Fail> {
+    let cases = [
+        (2u8, b"commit".as_slice(), "no change"),
+        (16, &[0; 8], "no change"),
+        (16, &[0; 7], "bad event"),
+        (2, b"savepoint s", "open"),
+        (3, b"", "open"),
+        (2, b"begin", "nested"),
+        (2, b"drop table t", "unsupported"),
+        (19, b"", "not built"),
+        (31, b"", "not built"),
+        (33, b"", "another fault"),
+    ];
+    for (i, (kind, text, wanted)) in cases.into_iter().enumerate() {
+        let read = one_transaction(rt.alloc(), kind, text)?;
+        assert_eq!(rt; outcome(&read), wanted, "case {i}");
     }
     Ok(())
 }

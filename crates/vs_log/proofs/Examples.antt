@@ -12,7 +12,7 @@ use Rattle.vs_gtid.specs.Positions.{Position, has}
 use Rattle.vs_log.specs.declared.state.Statement.TheVariants.{Begin, Single}
 use Rattle.vs_log.specs.Events.{time_of, kind_of, length_of, flags_of, body_of, sort_of, is_held, magic}
 use Rattle.vs_log.specs.Table.{Rules, gtid_in, bytes_with, step}
-use Rattle.vs_log.specs.Meaning.{head_refusal, follow, log_meant}
+use Rattle.vs_log.specs.Meaning.{head_refusal, follow, follow_with, log_meant}
 
 abbrev uuid : ℕ → List ℕ
 uuid n = replicate 15 0 ++ n ∷ []
@@ -61,11 +61,11 @@ abbrev nothing : Log
 nothing = record { base = []; entries = []; fault = None }
 
 empty_log : log_meant rules [] ≡ nothing
-unfolding log_meant follow is_held head_refusal
+unfolding log_meant follow_with is_held head_refusal
 empty_log = refl
 
 short_magic : log_meant rules (254 ∷ 98 ∷ []) ≡ nothing
-unfolding log_meant follow is_held head_refusal
+unfolding log_meant follow_with is_held head_refusal
 short_magic = refl
 
 wrong_magic : log_meant rules (254 ∷ 99 ∷ []) ≡ record nothing { fault = Some (0, BadMagic) }
@@ -73,36 +73,36 @@ unfolding log_meant
 wrong_magic = refl
 
 only_format : log_meant rules (magic ++ format_event) ≡ nothing
-unfolding log_meant follow is_held head_refusal step time_of kind_of length_of flags_of body_of sort_of bytes_with
+unfolding log_meant follow_with is_held head_refusal step time_of kind_of length_of flags_of body_of sort_of bytes_with
 only_format = refl
 
 with_base : log_meant rules front ≡ record nothing { base = base }
-unfolding log_meant follow is_held head_refusal step time_of kind_of length_of flags_of body_of sort_of bytes_with
+unfolding log_meant follow_with is_held head_refusal step time_of kind_of length_of flags_of body_of sort_of bytes_with
 with_base = refl
 
 no_format : log_meant rules (magic ++ query_event) ≡ record nothing { fault = Some (4, NoFormat) }
-unfolding log_meant follow is_held head_refusal step time_of kind_of length_of flags_of body_of sort_of bytes_with
+unfolding log_meant follow_with is_held head_refusal step time_of kind_of length_of flags_of body_of sort_of bytes_with
 no_format = refl
 
 bad_length : log_meant rules (front ++ head 33 18) ≡ record { base = base; entries = []; fault = Some (112, BadLength 18) }
-unfolding log_meant follow is_held head_refusal step time_of kind_of length_of flags_of body_of sort_of bytes_with
+unfolding log_meant follow_with is_held head_refusal step time_of kind_of length_of flags_of body_of sort_of bytes_with
 bad_length = refl
 
 -- an entry, and one that is cut
 one_entry : names (log_meant rules (front ++ gtid_event 1 6 ++ query_event ++ gtid_event 1 7)) ≡ (gtid 1 6, 7) ∷ []
-unfolding log_meant follow is_held head_refusal step time_of kind_of length_of flags_of body_of sort_of bytes_with gtid_in has added joined gtid_of
+unfolding log_meant follow_with is_held head_refusal step time_of kind_of length_of flags_of body_of sort_of bytes_with gtid_in has added joined gtid_of
 one_entry = refl
 
 a_transaction : names (log_meant begun_rules (front ++ gtid_event 2 1 ++ query_event ++ xid_event)) ≡ (gtid 2 1, 7) ∷ []
-unfolding log_meant follow is_held head_refusal step time_of kind_of length_of flags_of body_of sort_of bytes_with gtid_in has added joined gtid_of
+unfolding log_meant follow_with is_held head_refusal step time_of kind_of length_of flags_of body_of sort_of bytes_with gtid_in has added joined gtid_of
 a_transaction = refl
 
 nested_begin : (log_meant begun_rules (front ++ gtid_event 2 1 ++ query_event ++ query_event)).fault ≡ Some (189, NestedBegin)
-unfolding log_meant follow is_held head_refusal step time_of kind_of length_of flags_of body_of sort_of bytes_with gtid_in has added joined gtid_of
+unfolding log_meant follow_with is_held head_refusal step time_of kind_of length_of flags_of body_of sort_of bytes_with gtid_in has added joined gtid_of
 nested_begin = refl
 
 out_of_order : (log_meant rules (front ++ xid_event)).fault ≡ Some (112, BadOrder 16)
-unfolding log_meant follow is_held head_refusal step time_of kind_of length_of flags_of body_of sort_of bytes_with
+unfolding log_meant follow_with is_held head_refusal step time_of kind_of length_of flags_of body_of sort_of bytes_with
 out_of_order = refl
 
 abbrev fifth : Gtid
@@ -110,5 +110,5 @@ fifth = record { uuid = uuid 1; number = 5; first = leb-true 1 5 refl; last = le
 
 -- a GTID of the base
 repeated : (log_meant rules (front ++ gtid_event 1 5)).fault ≡ Some (112, RepeatedGtid fifth)
-unfolding log_meant follow is_held head_refusal step time_of kind_of length_of flags_of body_of sort_of bytes_with gtid_in has added joined gtid_of
+unfolding log_meant follow_with is_held head_refusal step time_of kind_of length_of flags_of body_of sort_of bytes_with gtid_in has added joined gtid_of
 repeated = refl

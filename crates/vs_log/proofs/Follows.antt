@@ -8,7 +8,7 @@ use Rattle.vs_base.specs.declared.Why.TheVariants.{BadMagic}
 use Rattle.vs_log.specs.declared.state.State.{State}
 use Rattle.vs_log.specs.Events.{Event, length_of, is_held, last_place, magic, joined}
 use Rattle.vs_log.specs.Table.{Rules, step}
-use Rattle.vs_log.specs.Meaning.{front, head_refusal, log_of, follow, has_magic, log_meant}
+use Rattle.vs_log.specs.Meaning.{front, head_refusal, log_of, follow, follow_with, has_magic, log_meant}
 use Rattle.vs_log.specs.Productions.{Begins, IsCut, Parts, Means}
 use Rattle.vs_log.proofs.Sound.{sound_step}
 use Rattle.vs_log.proofs.Cuts.{held, cut_more, length_more, magic_front}
@@ -80,7 +80,7 @@ turn rules bytes n events at s rest true c b p l h goes = turned rules bytes n e
 turn rules bytes n events at s rest false c b p l h goes = stopped rules bytes events at s rest _ c b p h refl
 
 goes : (rules : Rules) (bytes : List ℕ) (n : ℕ) → Goes rules bytes n
-unfolding Goes follow
+unfolding Goes follow_with
 goes rules bytes zero events at s rest c b p l = absurd (omega arith)
 goes rules bytes (suc n) events at s rest c b p l = turn rules bytes n events at s rest (is_held at rest) c b p l refl (goes rules bytes n)
 
@@ -89,7 +89,7 @@ whole_magic : (bytes : List ℕ) → has_magic bytes ≡ true → 4 ≤ length b
 whole_magic bytes h l = sym (take-append-drop 4 bytes) ∙ ap (λ z. z ++ drop 4 bytes) (magic_front bytes h ∙ take_all (length bytes) magic l)
 
 pub short_magic : (rules : Rules) (bytes : List ℕ) → has_magic bytes ≡ true → length bytes < 4 → follow (suc (length bytes)) rules 4 front (drop 4 bytes) ≡ log_of front 0 None
-unfolding follow is_held head_refusal
+unfolding follow_with is_held head_refusal
 short_magic rules bytes h l = ap (λ z. follow (suc (length bytes)) rules 4 front z) (drop_all 4 bytes (omega arith))
 
 meant : (rules : Rules) (bytes : List ℕ) (right : Bool) → has_magic bytes ≡ right →

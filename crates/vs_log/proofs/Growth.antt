@@ -14,7 +14,7 @@ use Rattle.vs_log.specs.declared.state.Place.TheVariants.{Between}
 use Rattle.vs_log.specs.declared.state.State.{State}
 use Rattle.vs_log.specs.Events.{Event, length_of, is_held, magic, joined}
 use Rattle.vs_log.specs.Table.{Rules, step}
-use Rattle.vs_log.specs.Meaning.{head_refusal, log_of, follow, has_magic, log_meant}
+use Rattle.vs_log.specs.Meaning.{head_refusal, log_of, follow, follow_with, has_magic, log_meant}
 use Rattle.vs_log.specs.Productions.{is_counted, is_nil, Begins, IsCut, IsLog, IsWholeLog, Means}
 use Rattle.vs_log.proofs.Moves.{Moves, step_moves}
 use Rattle.vs_log.proofs.Moves.Moves.{formatted, passed_between, passed_named, passed_inside, based, names, singles, begins, saves, maps_on, tells, ends}
@@ -46,7 +46,7 @@ moves_extend rules s e place next (tells g bytes maps work counted more is t) = 
 moves_extend rules s e place next (ends g bytes maps work end) = (_, refl)
 
 follow_extends : (n : ℕ) (rules : Rules) (at : ℕ) (s : State) (rest : List ℕ) → Extends s.entries (follow n rules at s rest).entries
-unfolding follow
+unfolding follow_with
 follow_extends zero rules at s rest = same_entries s.entries
 follow_extends (suc n) rules at s rest =
     turn (is_held at rest) (step rules s (take (length_of rest) rest)) refl (λ next. follow_extends n rules (at + length_of rest) next (drop (length_of rest) rest))

@@ -11,7 +11,7 @@ use Rattle.vs_gtid.specs.Logs.{Log}
 use Rattle.vs_log.specs.declared.state.State.{State}
 use Rattle.vs_log.specs.Events.{Event, length_of, is_held, last_place, magic, joined, IsEvent}
 use Rattle.vs_log.specs.Table.{Rules, step}
-use Rattle.vs_log.specs.Meaning.{front, head_refusal, log_of, follow, has_magic, log_meant}
+use Rattle.vs_log.specs.Meaning.{front, head_refusal, log_of, follow, follow_with, has_magic, log_meant}
 use Rattle.vs_log.specs.Productions.{Begins, IsCut, Refuses, Parts, Means}
 use Rattle.vs_log.specs.Laws.{MeansByProductions}
 use Rattle.vs_log.proofs.Moves.{chained}
@@ -27,7 +27,7 @@ abbrev one_turn : ℕ → Rules → ℕ → State → List ℕ → Bool → Log
 one_turn n rules at s rest whole = if whole then gone_on n rules at s rest (step rules s (take (length_of rest) rest)) else log_of s at (head_refusal at s.place rest)
 
 follow_turn : (n : ℕ) (rules : Rules) (at : ℕ) (s : State) (rest : List ℕ) (whole : Bool) → is_held at rest ≡ whole → follow (suc n) rules at s rest ≡ one_turn n rules at s rest whole
-unfolding follow
+unfolding follow_with
 follow_turn n rules at s rest whole h = ap (λ b. one_turn n rules at s rest b) h
 
 follow_event : (n : ℕ) (rules : Rules) (at : ℕ) (s : State) (e more : List ℕ) (r : Result State Why) → IsEvent e → at + length e ≤ last_place → step rules s e ≡ r →

@@ -1,5 +1,5 @@
 -- What the bytes of a log mean, by the table: the events are taken one after the other, until one is refused or isn't whole.
-use Rattle.std.specs.Prelude.{ℕ, zero, suc, ◌+◌, Bool, nat_lt, if◌then◌else◌, List, [], length, take, drop, Option, Some, None, Ok, Err}
+use Rattle.std.specs.Prelude.{ℕ, zero, suc, ◌+◌, Bool, true, false, is_some, nat_lt, if◌then◌else◌, List, [], length, take, drop, Option, Some, None, Ok, Err}
 use Rattle.std.specs.Cmp.Lexicographic.{pointwise}
 use Rattle.std.specs.Prelude.{nat_eq}
 use Rattle.vs_log.specs.Events.{length_of, is_held, limit, last_place, magic}
@@ -7,7 +7,7 @@ use Rattle.vs_base.specs.declared.Why.{Why}
 use Rattle.vs_base.specs.declared.Why.TheVariants.{BadMagic, BadLength, TooLarge}
 use Rattle.vs_gtid.specs.Logs.{Log}
 use Rattle.vs_log.specs.declared.state.Place.{Place}
-use Rattle.vs_log.specs.declared.state.Place.TheVariants.{Front}
+use Rattle.vs_log.specs.declared.state.Place.TheVariants.{Front, Between, Named, Inside}
 use Rattle.vs_log.specs.declared.state.State.{State}
 use Rattle.vs_log.specs.Table.{Rules, bytes_with, step}
 
@@ -31,16 +31,20 @@ at_place at (Some why) = Some (at, why)
 abbrev pub log_of : State → ℕ → Option Why → Log
 log_of s at why = record { base = s.base; entries = s.entries; fault = at_place at why }
 
--- the log from a place on, with so many events at most
-unfoldable pub follow : ℕ → Rules → ℕ → State → List ℕ → Log
-follow zero rules at s rest = log_of s at None
-follow (suc n) rules at s rest =
+-- what the reading from a place on comes to, with so many events at most: the state, the place and the fault at its end are told to `tell`
+unfoldable pub follow_with : {A : Type 0} → (State → ℕ → Option Why → A) → ℕ → Rules → ℕ → State → List ℕ → A
+follow_with tell zero rules at s rest = tell s at None
+follow_with tell (suc n) rules at s rest =
     if is_held at rest
     then (elim (step rules s (take (length_of rest) rest)) [
-      | Ok next ↦ follow n rules (at + length_of rest) next (drop (length_of rest) rest)
-      | Err why ↦ log_of s at (Some why)
+      | Ok next ↦ follow_with tell n rules (at + length_of rest) next (drop (length_of rest) rest)
+      | Err why ↦ tell s at (Some why)
     ])
-    else log_of s at (head_refusal at s.place rest)
+    else tell s at (head_refusal at s.place rest)
+
+-- the log from a place on
+abbrev pub follow : ℕ → Rules → ℕ → State → List ℕ → Log
+follow = follow_with log_of
 
 -- each byte of the magic that is there is right
 abbrev pub has_magic : List ℕ → Bool
@@ -49,3 +53,15 @@ has_magic bytes = pointwise nat_eq (take 4 bytes) (take (length bytes) magic)
 -- each event has a byte at least, so there are no more of them than bytes
 unfoldable pub log_meant : Rules → List ℕ → Log
 log_meant rules bytes = if has_magic bytes then follow (suc (length bytes)) rules 4 front (drop 4 bytes) else log_of front 0 (Some BadMagic)
+
+-- The base is known behind the first event after the format description that isn't passed over, whether it is whole or refused.
+abbrev pub is_base_known : Place → Option Why → Bool
+is_base_known Front why = false
+is_base_known (Between true) why = is_some why
+is_base_known (Between false) why = true
+is_base_known (Named g bytes) why = true
+is_base_known (Inside g bytes maps work) why = true
+
+-- whether the base is known from these bytes of the log
+unfoldable pub knows_base : Rules → List ℕ → Bool
+knows_base rules bytes = if has_magic bytes then follow_with (λ s at why. is_base_known s.place why) (suc (length bytes)) rules 4 front (drop 4 bytes) else false
