@@ -1,11 +1,10 @@
 -- Each entry that is read is a single statement, or a transaction that changes no row.
-use Rattle.std.proofs.Common.{◌≡◌, ℕ, ◌+◌, Bool, true, false, ◌&&◌, List, [], ◌∷◌, if◌then◌else◌, take, drop, length, slice_index, nat_le, nat_eq, Option, Some, None, Result, Ok, Err, map, refl, ap, sym, subst, ◌∙◌}
-use Rattle.std.specs.Prelude.{◌⊎◌, ◌==◌}
+use Rattle.std.proofs.Common.{◌≡◌, ℕ, Bool, true, false, ◌&&◌, List, [], ◌∷◌, if◌then◌else◌, nat_eq, Option, Some, None, Result, Ok, Err, map, refl, ap, sym, subst, ◌∙◌}
+use Rattle.std.specs.Prelude.{◌⊎◌}
 use Rattle.std.specs.List.{AllByRecursion}
 use Rattle.std.specs.Cmp.Lexicographic.{pointwise}
-use Rattle.byteorder.specs.Endian.{little_number}
 use Rattle.vs_base.specs.declared.Why.{Why}
-use Rattle.vs_base.specs.declared.Why.TheVariants.{BadEvent, NotBuilt}
+use Rattle.vs_base.specs.declared.Why.TheVariants.{NotBuilt}
 use Rattle.vs_gtid.specs.declared.Work.{Work}
 use Rattle.vs_gtid.specs.declared.Work.TheVariants.{Rows, Ddl, Other, Journal}
 use Rattle.vs_gtid.specs.declared.Entry.{Entry}
@@ -17,8 +16,10 @@ use Rattle.vs_log.specs.declared.Statement.TheVariants.{Begin, Commit, Savepoint
 use Rattle.vs_log.specs.declared.state.Counted.{Counted}
 use Rattle.vs_log.specs.declared.state.Counted.TheVariants.{Changed, Journaled}
 use Rattle.vs_log.specs.declared.State.{State}
-use Rattle.vs_log.specs.Events.{Event, body_of}
-use Rattle.vs_log.specs.Queries.{statement_of, said, said_at, is_ddl, schema_of, word_begin, word_commit, word_savepoint, word_xa, first_word}
+use Rattle.vs_binlog.specs.Heads.{Event, body_of}
+use Rattle.vs_binlog.specs.Bodies.{Said, query_body}
+use Rattle.vs_binlog.specs.Words.{first_word}
+use Rattle.vs_log.specs.Queries.{statement_of, statement_by, said, is_ddl, schema_of, word_begin, word_commit, word_savepoint, word_xa}
 use Rattle.vs_log.specs.Table.{single_work}
 use Rattle.vs_log.specs.Meaning.{log_meant}
 use Rattle.vs_log.specs.Productions.{AreEntries, Begins, IsMiddle, IsSingle, IsTransaction, IsWork, Means}
@@ -49,17 +50,13 @@ abbrev AloneIfRead : Result Statement Why → Type 0
 AloneIfRead (Ok statement) = IsAlone statement
 AloneIfRead (Err why) = Unit {0}
 
-read_if : (b : Bool) (statement : Statement) (why : Why) → IsAlone statement → AloneIfRead (if b then Ok statement else Err why)
-read_if true statement why p = p
-read_if false statement why p = tt
+statement_by-alone : (keyspace : List ℕ) (query : Option Said) → AloneIfRead (statement_by keyspace query)
+statement_by-alone keyspace None = tt
+statement_by-alone keyspace (Some query) = said-alone keyspace query.schema query.text (first_word query.text)
 
 statement_of-alone : (keyspace body : List ℕ) → AloneIfRead (statement_of keyspace body)
 unfolding statement_of
-statement_of-alone keyspace body =
-    let n : ℕ = slice_index body 8 in
-    let at : ℕ = 13 + little_number 2 (drop 11 body) in
-    read_if (nat_le (at + n + 1) (length body) && slice_index body (at + n) == 0) (said_at keyspace n (drop at body)) (BadEvent 2)
-    (said-alone keyspace (take n (drop at body)) (drop (n + 1) (drop at body)) (first_word (drop (n + 1) (drop at body))))
+statement_of-alone keyspace body = statement_by-alone keyspace (query_body body)
 
 -- the work of what is read is a statement
 single : (r : Result Statement Why) (statement : Statement) (work : Work) → AloneIfRead r → r ≡ Ok statement → single_work statement ≡ Some work → IsBuilt work

@@ -7,7 +7,7 @@ use Rattle.vs_log.specs.declared.event.Sort.TheVariants.{AnonymousEvent, PassedO
 use Rattle.vs_log.specs.declared.state.Place.{Place}
 use Rattle.vs_log.specs.declared.state.Place.TheVariants.{Front}
 use Rattle.vs_log.specs.declared.state.State.{State}
-use Rattle.vs_log.specs.Events.{Event}
+use Rattle.vs_binlog.specs.Heads.{Event}
 use Rattle.vs_log.specs.Table.{sum_with, size, line}
 use Rattle.vs_entries.specs.Rules.{rules_of}
 

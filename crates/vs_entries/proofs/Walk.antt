@@ -6,7 +6,8 @@ use Rattle.vs_base.specs.declared.Why.{Why}
 use Rattle.vs_base.specs.declared.Why.TheVariants.{BadMagic}
 use Rattle.std.proofs.lemmas.Bool.Decides.{nat_tests}
 use Rattle.vs_log.specs.declared.state.State.{State}
-use Rattle.vs_log.specs.Events.{length_of, is_held}
+use Rattle.vs_binlog.specs.Heads.{length_of}
+use Rattle.vs_log.specs.Events.{is_held}
 use Rattle.vs_log.specs.Table.{Rules}
 use Rattle.vs_log.specs.Meaning.{front, follow_with, has_magic, head_refusal, is_base_known, knows_base, log_meant, log_of}
 use Rattle.vs_entries.specs.Reading.{next_state}

@@ -8,7 +8,8 @@ use Rattle.vs_gtid.specs.Logs.{Log}
 use Rattle.vs_log.specs.declared.state.Place.{Place}
 use Rattle.vs_log.specs.declared.state.Place.TheVariants as place
 use Rattle.vs_log.specs.declared.state.State.{State}
-use Rattle.vs_log.specs.Events.{Event, body_of, length_of, is_held, last_place}
+use Rattle.vs_binlog.specs.Heads.{Event, body_of, length_of}
+use Rattle.vs_log.specs.Events.{is_held, last_place}
 use Rattle.vs_log.specs.Table.{Rules, step, with_base, ended, new_gtid, named, first_query, later_query, ◌>>=◌}
 use Rattle.vs_log.specs.Queries.{statement_of}
 use Rattle.vs_gtid.specs.Block.{block_of}

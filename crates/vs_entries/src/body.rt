@@ -5,43 +5,33 @@ ghost use Rattle.vs_entries.specs.Reading.{Answers};
 ghost use Rattle.vs_entries.specs.Rules.{base_of};
 
 use crate::refusal::Refusal;
-use byteorder::{ByteOrder, LittleEndian};
 use std::alloc::Global;
 use vs_base::{Gtid, Why};
+use vs_binlog::{FormatRefusal, read_format, read_gtid};
 use vs_gtid::{GtidRefusal, GtidSet};
 
 /// What is wrong with the body of a format description.
 pub fn format_fault(body: &[u8]) -> Option<Why>
     ensures { result ≡ format_refusal body.now }
 {
-    if body.len() < 62 {
-        return Some(Why::BadEvent { kind: 15 });
+    match read_format(body) {
+        Ok(()) => None,
+        Err(FormatRefusal::ShortFormat) => Some(Why::BadEvent { kind: 15 }),
+        Err(FormatRefusal::BadVersion { version }) => Some(Why::BadVersion { version }),
+        Err(FormatRefusal::HeadLength { .. }) => Some(Why::BadEvent { kind: 15 }),
+        Err(FormatRefusal::Checksummed { kind }) => Some(Why::Checksummed { kind }),
     }
-    let version = LittleEndian::read_u16(body);
-    if version != 4 {
-        return Some(Why::BadVersion { version });
-    }
-    if body[56] != 19 {
-        return Some(Why::BadEvent { kind: 15 });
-    }
-    let kind = body[body.len() - 5];
-    if kind != 0 {
-        return Some(Why::Checksummed { kind });
-    }
-    None
 }
 
-/// The GTID in the body of a GTID event.
+/// The GTID in the body of a GTID event, or what is wrong with it.
 #[tactic(auto, unfolding(vs_log::specs::Table::gtid_in))]
-pub fn read_gtid(body: &[u8]) -> Result<Gtid, Why>
+pub fn named_gtid(body: &[u8]) -> Result<Gtid, Why>
     ensures { result ≡ gtid_in body.now }
 {
     if body.len() < 25 {
         return Err(Why::BadEvent { kind: 33 });
     }
-    let mut uuid = [0u8; 16];
-    uuid.copy_from_slice(&body[1..17]);
-    match Gtid::new(uuid, LittleEndian::read_u64(&body[17..])) {
+    match read_gtid(body) {
         Some(gtid) => Ok(gtid),
         None => Err(Why::BadGtid),
     }

@@ -13,7 +13,6 @@ mod reader;
 mod refusal;
 #[cfg(test)]
 mod tests;
-mod word;
 
 pub use laws::law_built;
 pub use log::{LogFault, LogRead, read_log};

@@ -1,13 +1,13 @@
 ghost use Rattle.std.specs.Prelude.{◌≡◌, IfOk, map, nat_eq};
 ghost use Rattle.std.specs.Cmp.Lexicographic.{pointwise};
-ghost use Rattle.vs_log.specs.Queries.{first_word, is_ddl, said, schema_of, statement_of, upper};
+ghost use Rattle.vs_binlog.specs.Words.{first_word, upper};
+ghost use Rattle.vs_log.specs.Queries.{is_ddl, said, schema_of, statement_of};
 ghost use Rattle.vs_entries.specs.Reading.{Answers};
 
 use crate::refusal::Refusal;
-use crate::word::{first_word_in, is_same_word};
-use byteorder::{ByteOrder, LittleEndian};
 use std::alloc::Global;
 use vs_base::{OutOfMemory, Text, Why};
+use vs_binlog::{first_word, is_same_word, read_query};
 use vs_gtid::Work;
 use vs_log::Statement;
 
@@ -16,31 +16,17 @@ use vs_log::Statement;
 pub fn read_statement(alloc: Global, body: &[u8], keyspace: &[u8]) -> Result<Statement, Refusal>
     ensures { Answers result (statement_of keyspace.now body.now) }
 {
-    if body.len() < 14 {
-        return Err(Refusal::Wrong(Why::BadEvent { kind: 2 }));
+    match read_query(body) {
+        Some(query) => Ok(say(alloc, query.schema, query.text, keyspace)?),
+        None => Err(Refusal::Wrong(Why::BadEvent { kind: 2 })),
     }
-    let schema_length = body[8] as usize;
-    let at = 13 + LittleEndian::read_u16(&body[11..]) as usize;
-    if at + schema_length + 1 > body.len() {
-        return Err(Refusal::Wrong(Why::BadEvent { kind: 2 }));
-    }
-    if body[at + schema_length] != 0 {
-        return Err(Refusal::Wrong(Why::BadEvent { kind: 2 }));
-    }
-    let rest = &body[at..];
-    Ok(say(
-        alloc,
-        &rest[..schema_length],
-        &rest[schema_length + 1..],
-        keyspace,
-    )?)
 }
 
 /// What a statement under a default schema says in the log of a shard of the keyspace.
 fn say(alloc: Global, schema: &[u8], text: &[u8], keyspace: &[u8]) -> Result<Statement, OutOfMemory>
     ensures { IfOk result (λ s. s ≡ said keyspace.now schema.now text.now (first_word text.now)) }
 {
-    let word = first_word_in(text);
+    let word = first_word(text);
     if is_same_word(word, b"BEGIN") {
         return Ok(Statement::Begin);
     }

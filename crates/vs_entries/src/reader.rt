@@ -1,16 +1,18 @@
 ghost use Rattle.std.specs.Prelude.{◌≡◌, ◌≤◌, ◌+◌, [], IfOk, MatchOption, Ok, false, length};
-ghost use Rattle.vs_log.specs.Events.{is_held, last_place, length_of, limit, sort_of};
+ghost use Rattle.vs_binlog.specs.Heads.{length_of};
+ghost use Rattle.vs_log.specs.Events.{is_held, last_place, limit, sort_of};
 ghost use Rattle.vs_log.specs.Meaning.{front, head_refusal, is_base_known, log_of};
 ghost use Rattle.vs_log.specs.Table.{bytes_with, ended, line, size, step};
 ghost use Rattle.vs_entries.specs.Reading.{IsFrontEvent};
 
-use crate::body::{format_fault, read_base, read_gtid};
-use crate::event::{HEAD, kind, sort_in, time, total_length};
+use crate::body::{format_fault, named_gtid, read_base};
+use crate::event::sort_in;
 use crate::log::{LogFault, LogRead};
 use crate::query::read_statement;
 use crate::refusal::Refusal;
 use std::alloc::{AllocError, Global};
 use vs_base::{Gtid, List, OutOfMemory, Why};
+use vs_binlog::{HEAD, Step, next_event, read_head};
 use vs_gtid::{Entry, GtidRefusal, GtidSet, Work};
 use vs_log::{Sort, Statement};
 
@@ -71,9 +73,10 @@ impl Standing {
         requires { 19 ≤ length event.now }
         ensures { result ≡ bytes_with (place_of self.now) event.now }
     {
+        let length = read_head(event).length as u64;
         match sort_in(event) {
-            Sort::PassedOver => total_length(event) as u64,
-            _ => self.size() as u64 + total_length(event) as u64,
+            Sort::PassedOver => length,
+            _ => self.size() as u64 + length,
         }
     }
 
@@ -83,13 +86,11 @@ impl Standing {
         requires { at ≤ last_place }
         ensures { result ≡ head_refusal at (place_of self.now) rest.now }
     {
-        if rest.len() < HEAD {
-            return None;
-        }
-        let length = total_length(rest);
-        if length < 19 {
-            return Some(Why::BadLength { length });
-        }
+        let length = match next_event(rest) {
+            Step::Short => return None,
+            Step::Bad { length } => return Some(Why::BadLength { length }),
+            Step::Event(head) => head.length,
+        };
         let bytes = self.bytes_with(rest);
         if bytes > LIMIT {
             return Some(Why::TooLarge { bytes });
@@ -109,13 +110,10 @@ fn front_event(rest: &[u8], at: usize) -> Option<&[u8]>
     requires { at ≤ last_place }
     ensures { MatchOption result (is_held at rest.now ≡ false) (λ e. IsFrontEvent at rest.now e.now) }
 {
-    if rest.len() < HEAD {
+    let Step::Event(head) = next_event(rest) else {
         return None;
-    }
-    let length = total_length(rest) as usize;
-    if length < HEAD {
-        return None;
-    }
+    };
+    let length = head.length as usize;
     if length > rest.len() {
         return None;
     }
@@ -212,7 +210,7 @@ impl Reader {
     }
 
     /// Takes the first event of a log.
-    #[tactic(auto, unfolding(vs_log::specs::Events::body_of), using(crate::proofs::Lines::line_front_other))]
+    #[tactic(auto, unfolding(vs_binlog::specs::Heads::body_of), using(crate::proofs::Lines::line_front_other))]
     fn take_first(&mut self, event: &[u8]) -> Result<(), Refusal>
         requires { 19 ≤ length event.now }
         ensures { Takes result self.old self.new (line (rules_of []) (state_of self.old) event.now Front (sort_of event.now)) }
@@ -239,8 +237,12 @@ impl Reader {
             Sort::PassedOver => Ok(()),
             Sort::PreviousEvent if first => self.take_base(alloc, event),
             Sort::GtidEvent => self.take_gtid(event),
-            Sort::ForeignEvent => Err(Refusal::Wrong(Why::Unsupported { kind: kind(event) })),
-            _ => Err(Refusal::Wrong(Why::BadOrder { kind: kind(event) })),
+            Sort::ForeignEvent => Err(Refusal::Wrong(Why::Unsupported {
+                kind: read_head(event).kind,
+            })),
+            _ => Err(Refusal::Wrong(Why::BadOrder {
+                kind: read_head(event).kind,
+            })),
         }
     }
 
@@ -262,8 +264,8 @@ impl Reader {
             Sort::AnonymousEvent => Err(Refusal::Wrong(Why::Anonymous)),
             Sort::PassedOver => Ok(()),
             Sort::QueryEvent => self.take_query(alloc, event, keyspace, gtid, bytes),
-            Sort::ForeignEvent => Err(Refusal::Wrong(Why::Unsupported { kind: kind(event) })),
-            _ => Err(Refusal::Wrong(Why::BadOrder { kind: kind(event) })),
+            Sort::ForeignEvent => Err(Refusal::Wrong(Why::Unsupported { kind: read_head(event).kind })),
+            _ => Err(Refusal::Wrong(Why::BadOrder { kind: read_head(event).kind })),
         }
     }
 
@@ -287,13 +289,13 @@ impl Reader {
             Sort::QueryEvent => self.take_later_query(alloc, event, keyspace, gtid, bytes),
             Sort::XidEvent => self.take_xid(alloc, event, gtid),
             Sort::MapEvent | Sort::RowsEvent => Err(Refusal::Wrong(Why::NotBuilt)),
-            Sort::ForeignEvent => Err(Refusal::Wrong(Why::Unsupported { kind: kind(event) })),
-            _ => Err(Refusal::Wrong(Why::BadOrder { kind: kind(event) })),
+            Sort::ForeignEvent => Err(Refusal::Wrong(Why::Unsupported { kind: read_head(event).kind })),
+            _ => Err(Refusal::Wrong(Why::BadOrder { kind: read_head(event).kind })),
         }
     }
 
     /// Takes a PREVIOUS_GTIDS event.
-    #[tactic(auto, unfolding(vs_log::specs::Events::body_of))]
+    #[tactic(auto, unfolding(vs_binlog::specs::Heads::body_of))]
     fn take_base(&mut self, alloc: Global, event: &[u8]) -> Result<(), Refusal>
         requires { 19 ≤ length event.now }
         ensures { Takes result self.old self.new (with_previous (state_of self.old) event.now) }
@@ -307,12 +309,12 @@ impl Reader {
     }
 
     /// Takes a GTID event, which begins an entry.
-    #[tactic(auto, unfolding(vs_log::specs::Events::body_of))]
+    #[tactic(auto, unfolding(vs_binlog::specs::Heads::body_of))]
     fn take_gtid(&mut self, event: &[u8]) -> Result<(), Refusal>
         requires { 19 ≤ length event.now }
         ensures { Takes result self.old self.new (with_gtid (state_of self.old) event.now) }
     {
-        let gtid = match read_gtid(&event[HEAD..]) {
+        let gtid = match named_gtid(&event[HEAD..]) {
             Ok(gtid) => gtid,
             Err(why) => return Err(Refusal::Wrong(why)),
         };
@@ -323,7 +325,7 @@ impl Reader {
             Ok(()) => {
                 self.standing = Standing::Named {
                     gtid,
-                    bytes: total_length(event),
+                    bytes: read_head(event).length,
                 };
                 Ok(())
             }
@@ -333,7 +335,7 @@ impl Reader {
     }
 
     /// Takes a query event behind the GTID event of an entry.
-    #[tactic(auto, unfolding(vs_log::specs::Events::body_of))]
+    #[tactic(auto, unfolding(vs_binlog::specs::Heads::body_of))]
     fn take_query(
         &mut self,
         alloc: Global,
@@ -350,7 +352,7 @@ impl Reader {
             Statement::Begin => {
                 self.standing = Standing::Inside {
                     gtid,
-                    bytes: bytes + total_length(event),
+                    bytes: bytes + read_head(event).length,
                 };
                 Ok(())
             }
@@ -362,7 +364,7 @@ impl Reader {
     }
 
     /// Takes a query event inside a transaction.
-    #[tactic(auto, unfolding(vs_log::specs::Events::body_of))]
+    #[tactic(auto, unfolding(vs_binlog::specs::Heads::body_of))]
     fn take_later_query(
         &mut self,
         alloc: Global,
@@ -380,7 +382,7 @@ impl Reader {
             Statement::Savepoint => {
                 self.standing = Standing::Inside {
                     gtid,
-                    bytes: bytes + total_length(event),
+                    bytes: bytes + read_head(event).length,
                 };
                 Ok(())
             }
@@ -394,7 +396,7 @@ impl Reader {
     }
 
     /// Takes an XID event, which ends a transaction.
-    #[tactic(auto, unfolding(vs_log::specs::Events::body_of))]
+    #[tactic(auto, unfolding(vs_binlog::specs::Heads::body_of))]
     fn take_xid(&mut self, alloc: Global, event: &[u8], gtid: Gtid) -> Result<(), Refusal>
         requires { 19 ≤ length event.now }
         ensures { Takes result self.old self.new (with_xid (state_of self.old) event.now gtid) }
@@ -412,7 +414,7 @@ impl Reader {
     {
         self.entries.push(Entry {
             gtid,
-            time: time(event),
+            time: read_head(event).time,
             work,
         })?;
         self.standing = Standing::Between { first: false };

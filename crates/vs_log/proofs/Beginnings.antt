@@ -2,7 +2,7 @@
 use Rattle.std.proofs.Common.{◌≡◌, List, ◌∷◌, ◌++◌, Result, Ok, Err, ap, sym, ◌∙◌}
 use Rattle.vs_base.specs.declared.Why.{Why}
 use Rattle.vs_log.specs.declared.state.State.{State}
-use Rattle.vs_log.specs.Events.{Event}
+use Rattle.vs_binlog.specs.Heads.{Event}
 use Rattle.vs_log.specs.Table.{Rules, step, ◌>>=◌}
 use Rattle.vs_log.specs.Meaning.{front}
 use Rattle.vs_log.specs.Productions.{Begins}

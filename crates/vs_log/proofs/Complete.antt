@@ -16,7 +16,8 @@ use Rattle.vs_log.specs.declared.state.Counted.TheVariants.{Changed}
 use Rattle.vs_log.specs.declared.state.Place.{Place}
 use Rattle.vs_log.specs.declared.state.Place.TheVariants.{Front, Between, Named, Inside}
 use Rattle.vs_log.specs.declared.state.State.{State}
-use Rattle.vs_log.specs.Events.{Event, length_of, body_of, limit}
+use Rattle.vs_binlog.specs.Heads.{Event, length_of, body_of}
+use Rattle.vs_log.specs.Events.{limit}
 use Rattle.vs_log.specs.Table.{Rules, one_more, more_work, step}
 use Rattle.vs_log.specs.Meaning.{front}
 use Rattle.vs_log.specs.Productions.{is_counted, total, in_turn, is_nil, is_first, IsBase, IsMiddle, IsWork, IsGtid, IsUnended, IsSingle, IsTransaction, IsEntry, IsNew, AreEntries, IsBegun, Stands, Begins}

@@ -4,7 +4,8 @@ use Rattle.std.specs.Cmp.Lexicographic.{same_text}
 use Rattle.std.proofs.lemmas.Bool.{leb-true, le-leb, and_parts, and_from}
 use Rattle.std.proofs.lemmas.List.{append-nil, take_at, drop_at, length-take-le, length-drop, take-append-drop, drop-append-le, get_or_append_left}
 use Rattle.byteorder.specs.Endian.{little_from}
-use Rattle.vs_log.specs.Events.{Event, length_of, kind_of, flags_of, sort, sort_of, is_held, last_place, magic, joined, IsEvent}
+use Rattle.vs_binlog.specs.Heads.{Event, length_of, kind_of, flags_of}
+use Rattle.vs_log.specs.Events.{sort, sort_of, is_held, last_place, magic, joined, IsEvent}
 use Rattle.vs_log.specs.declared.state.Place.{Place}
 use Rattle.vs_log.specs.Table.{sum_with, bytes_with}
 use Rattle.vs_log.specs.Meaning.{has_magic}

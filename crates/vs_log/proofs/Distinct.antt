@@ -11,7 +11,7 @@ use Rattle.vs_gtid.specs.Joins.{added}
 use Rattle.vs_gtid.specs.Logs.{Log, HaveDistinctGtids}
 use Rattle.vs_gtid.proofs.JoinLemmas.{has-added}
 use Rattle.vs_log.specs.declared.state.State.{State}
-use Rattle.vs_log.specs.Events.{Event}
+use Rattle.vs_binlog.specs.Heads.{Event}
 use Rattle.vs_log.specs.Table.{Rules}
 use Rattle.vs_log.specs.Meaning.{log_meant}
 use Rattle.vs_log.specs.Productions.{AreEntries, Begins, Means}

@@ -10,9 +10,11 @@ use Rattle.vs_gtid.specs.Joins.{added, joined}
 use Rattle.vs_gtid.specs.Logs.{Log}
 use Rattle.vs_gtid.specs.Positions.{Position, has}
 use Rattle.vs_log.specs.declared.state.Statement.TheVariants.{Begin, Single}
-use Rattle.vs_log.specs.Events.{time_of, kind_of, length_of, flags_of, body_of, sort_of, is_held, magic}
+use Rattle.vs_binlog.specs.Heads.{time_of, kind_of, length_of, flags_of, body_of}
+use Rattle.vs_binlog.specs.Bodies.{gtid_body}
+use Rattle.vs_log.specs.Events.{sort_of, is_held, magic}
 use Rattle.vs_log.specs.Table.{Rules, gtid_in, bytes_with, step}
-use Rattle.vs_log.specs.Meaning.{head_refusal, follow, follow_with, log_meant}
+use Rattle.vs_log.specs.Meaning.{head_refusal, follow_with, log_meant}
 
 abbrev uuid : ℕ → List ℕ
 uuid n = replicate 15 0 ++ n ∷ []
@@ -90,15 +92,15 @@ bad_length = refl
 
 -- an entry, and one that is cut
 one_entry : names (log_meant rules (front ++ gtid_event 1 6 ++ query_event ++ gtid_event 1 7)) ≡ (gtid 1 6, 7) ∷ []
-unfolding log_meant follow_with is_held head_refusal step time_of kind_of length_of flags_of body_of sort_of bytes_with gtid_in has added joined gtid_of
+unfolding log_meant follow_with is_held head_refusal step time_of kind_of length_of flags_of body_of sort_of bytes_with gtid_in gtid_body has added joined gtid_of
 one_entry = refl
 
 a_transaction : names (log_meant begun_rules (front ++ gtid_event 2 1 ++ query_event ++ xid_event)) ≡ (gtid 2 1, 7) ∷ []
-unfolding log_meant follow_with is_held head_refusal step time_of kind_of length_of flags_of body_of sort_of bytes_with gtid_in has added joined gtid_of
+unfolding log_meant follow_with is_held head_refusal step time_of kind_of length_of flags_of body_of sort_of bytes_with gtid_in gtid_body has added joined gtid_of
 a_transaction = refl
 
 nested_begin : (log_meant begun_rules (front ++ gtid_event 2 1 ++ query_event ++ query_event)).fault ≡ Some (189, NestedBegin)
-unfolding log_meant follow_with is_held head_refusal step time_of kind_of length_of flags_of body_of sort_of bytes_with gtid_in has added joined gtid_of
+unfolding log_meant follow_with is_held head_refusal step time_of kind_of length_of flags_of body_of sort_of bytes_with gtid_in gtid_body has added joined gtid_of
 nested_begin = refl
 
 out_of_order : (log_meant rules (front ++ xid_event)).fault ≡ Some (112, BadOrder 16)
@@ -110,5 +112,5 @@ fifth = record { uuid = uuid 1; number = 5; first = leb-true 1 5 refl; last = le
 
 -- a GTID of the base
 repeated : (log_meant rules (front ++ gtid_event 1 5)).fault ≡ Some (112, RepeatedGtid fifth)
-unfolding log_meant follow_with is_held head_refusal step time_of kind_of length_of flags_of body_of sort_of bytes_with gtid_in has added joined gtid_of
+unfolding log_meant follow_with is_held head_refusal step time_of kind_of length_of flags_of body_of sort_of bytes_with gtid_in gtid_body has added joined gtid_of
 repeated = refl

@@ -8,7 +8,8 @@ use Rattle.vs_base.specs.declared.Why.TheVariants.{BadLength, TooLarge}
 use Rattle.vs_gtid.specs.Logs.{Log}
 use Rattle.vs_log.specs.declared.state.Place.{Place}
 use Rattle.vs_log.specs.declared.state.State.{State}
-use Rattle.vs_log.specs.Events.{length_of, sort_of, is_held, limit, last_place, joined}
+use Rattle.vs_binlog.specs.Heads.{length_of}
+use Rattle.vs_log.specs.Events.{sort_of, is_held, limit, last_place, joined}
 use Rattle.vs_log.specs.Table.{Rules, bytes_with, line, step}
 use Rattle.vs_log.specs.Meaning.{head_refusal, log_of, at_place, log_meant}
 use Rattle.vs_log.specs.Productions.{IsWrong, Refuses, Parts, Means}

@@ -12,7 +12,8 @@ use Rattle.vs_gtid.specs.Positions.{Position}
 use Rattle.vs_log.specs.declared.state.Place.{Place}
 use Rattle.vs_log.specs.declared.state.Place.TheVariants.{Between}
 use Rattle.vs_log.specs.declared.state.State.{State}
-use Rattle.vs_log.specs.Events.{Event, length_of, is_held, magic, joined}
+use Rattle.vs_binlog.specs.Heads.{Event, length_of}
+use Rattle.vs_log.specs.Events.{is_held, magic, joined}
 use Rattle.vs_log.specs.Table.{Rules, step}
 use Rattle.vs_log.specs.Meaning.{head_refusal, log_of, follow, follow_with, has_magic, log_meant}
 use Rattle.vs_log.specs.Productions.{is_counted, is_nil, Begins, IsCut, IsLog, IsWholeLog, Means}

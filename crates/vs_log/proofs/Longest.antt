@@ -11,7 +11,8 @@ use Rattle.vs_gtid.specs.Positions.{Position}
 use Rattle.vs_log.specs.declared.state.Place.{Place}
 use Rattle.vs_log.specs.declared.state.Place.TheVariants.{Between}
 use Rattle.vs_log.specs.declared.state.State.{State}
-use Rattle.vs_log.specs.Events.{Event, length_of, is_held, last_place, magic, joined, IsEvent}
+use Rattle.vs_binlog.specs.Heads.{Event, length_of}
+use Rattle.vs_log.specs.Events.{is_held, last_place, magic, joined, IsEvent}
 use Rattle.vs_log.specs.Table.{Rules, step}
 use Rattle.vs_log.specs.Meaning.{front, has_magic, log_meant}
 use Rattle.vs_log.specs.Productions.{Begins, IsBegun, Stands, Refuses, IsLog, IsWholeLog, Parts, Means}

@@ -17,7 +17,8 @@ use Rattle.vs_log.specs.declared.state.Counted.{Counted}
 use Rattle.vs_log.specs.declared.state.Place.{Place}
 use Rattle.vs_log.specs.declared.state.Place.TheVariants.{Front, Between, Named, Inside}
 use Rattle.vs_log.specs.declared.state.State.{State}
-use Rattle.vs_log.specs.Events.{Event, kind_of, length_of, body_of, sort_of, limit}
+use Rattle.vs_binlog.specs.Heads.{Event, kind_of, length_of, body_of}
+use Rattle.vs_log.specs.Events.{sort_of, limit}
 use Rattle.vs_log.specs.Table.{Rules, ◌>>=◌, unless, format_refusal, gtid_in, single_work, more_work, bytes_with, ended, with_base, new_gtid, named, first_query, later_query, told, line, step}
 use Rattle.vs_log.specs.Productions.{IsFormat, IsGtid, Says, IsMap, Tells, Ends, IsNew}
 

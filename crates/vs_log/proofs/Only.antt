@@ -9,7 +9,8 @@ use Rattle.vs_base.specs.declared.Why.{Why}
 use Rattle.vs_base.specs.declared.Why.TheVariants.{BadMagic}
 use Rattle.vs_gtid.specs.Logs.{Log}
 use Rattle.vs_log.specs.declared.state.State.{State}
-use Rattle.vs_log.specs.Events.{Event, length_of, is_held, last_place, magic, joined, IsEvent}
+use Rattle.vs_binlog.specs.Heads.{Event, length_of}
+use Rattle.vs_log.specs.Events.{is_held, last_place, magic, joined, IsEvent}
 use Rattle.vs_log.specs.Table.{Rules, step}
 use Rattle.vs_log.specs.Meaning.{front, head_refusal, log_of, follow, follow_with, has_magic, log_meant}
 use Rattle.vs_log.specs.Productions.{Begins, IsCut, Refuses, Parts, Means}

@@ -11,7 +11,7 @@ use Rattle.vs_gtid.specs.Positions.{Position}
 use Rattle.vs_gtid.specs.Joins.{added}
 use Rattle.vs_log.specs.declared.state.Counted.{Counted}
 use Rattle.vs_log.specs.declared.state.Counted.TheVariants.{Changed, Journaled}
-use Rattle.vs_log.specs.Events.{Event, body_of}
+use Rattle.vs_binlog.specs.Heads.{Event, body_of}
 use Rattle.vs_log.specs.Table.{Rules, one_more, more_work}
 use Rattle.vs_log.specs.Productions.{is_counted, total, in_turn, is_nil, IsMiddle, IsWork, IsEntry, IsNew, AreEntries}
 

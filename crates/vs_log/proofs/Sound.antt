@@ -17,7 +17,8 @@ use Rattle.vs_log.specs.declared.state.Counted.{Counted}
 use Rattle.vs_log.specs.declared.state.Place.{Place}
 use Rattle.vs_log.specs.declared.state.Place.TheVariants.{Front}
 use Rattle.vs_log.specs.declared.state.State.{State}
-use Rattle.vs_log.specs.Events.{Event, time_of, length_of, body_of, sort_of, limit}
+use Rattle.vs_binlog.specs.Heads.{Event, time_of, length_of, body_of}
+use Rattle.vs_log.specs.Events.{sort_of, limit}
 use Rattle.vs_log.specs.Table.{Rules, single_work, size, sum_with, bytes_with, ended, with_base, named, step}
 use Rattle.vs_log.specs.Meaning.{front}
 use Rattle.vs_log.specs.Productions.{counts, is_counted, total, in_turn, is_nil, is_first, IsBase, IsMiddle, IsWork, IsGtid, Says, IsUnended, IsEntry, IsNew, IsNamed, Ends, AreEntries, IsLog, IsBegun, Stands, Begins}

@@ -16,7 +16,8 @@ use Rattle.vs_log.specs.declared.state.Statement.TheVariants.{Begin, Commit, Sav
 use Rattle.vs_log.specs.declared.state.Place.{Place}
 use Rattle.vs_log.specs.declared.state.Place.TheVariants.{Front, Between, Named, Inside}
 use Rattle.vs_log.specs.declared.state.State.{State}
-use Rattle.vs_log.specs.Events.{Event, length_of, body_of, sort_of, limit}
+use Rattle.vs_binlog.specs.Heads.{Event, length_of, body_of}
+use Rattle.vs_log.specs.Events.{sort_of, limit}
 use Rattle.vs_log.specs.Table.{Rules, ◌>>=◌, unless, gtid_in, single_work, more_work, size, sum_with, bytes_with, ended, with_base, new_gtid, named, first_query, later_query, told, line, step}
 use Rattle.vs_log.specs.Productions.{counts, is_counted, IsNew}
 use Rattle.vs_log.proofs.Moves.{Moves, chained, step_moves}

@@ -1,26 +1,8 @@
--- An event is its bytes: a head of 19 bytes, and a body. The number in the head's length field counts both.
+-- What the events of a log are to it, by their heads; and when an event is whole.
 use Rattle.vs_log.specs.declared.event.Sort.{Sort}
 use Rattle.vs_log.specs.declared.event.Sort.TheVariants.{AnonymousEvent, PassedOver, FormatEvent, PreviousEvent, GtidEvent, QueryEvent, XidEvent, MapEvent, RowsEvent, ForeignEvent}
-use Rattle.std.specs.Prelude.{◌≡◌, ◌≤◌, ℕ, ◌+◌, ◌/◌, ◌%◌, ◌==◌, Bool, ◌&&◌, ◌||◌, not, nat_le, if◌then◌else◌, List, [], ◌∷◌, ◌++◌, length, drop, slice_index}
-use Rattle.byteorder.specs.Endian.{little_number}
-
-abbrev pub Event : Type 0
-Event = List ℕ
-
-unfoldable pub time_of : Event → ℕ
-time_of e = little_number 4 e
-
-unfoldable pub kind_of : Event → ℕ
-kind_of e = slice_index e 4
-
-unfoldable pub length_of : Event → ℕ
-length_of e = little_number 4 (drop 9 e)
-
-unfoldable pub flags_of : Event → ℕ
-flags_of e = little_number 2 (drop 17 e)
-
-unfoldable pub body_of : Event → List ℕ
-body_of e = drop 19 e
+use Rattle.std.specs.Prelude.{◌≡◌, ◌≤◌, ℕ, ◌+◌, ◌/◌, ◌%◌, ◌==◌, Bool, ◌&&◌, ◌||◌, not, nat_le, if◌then◌else◌, List, [], ◌∷◌, ◌++◌, length}
+use Rattle.vs_binlog.specs.Heads.{Event, kind_of, flags_of, length_of}
 
 -- the kinds that have a line of their own
 abbrev pub is_known : ℕ → Bool

@@ -2,7 +2,8 @@
 use Rattle.std.specs.Prelude.{ℕ, zero, suc, ◌+◌, Bool, true, false, is_some, nat_lt, if◌then◌else◌, List, [], length, take, drop, Option, Some, None, Ok, Err}
 use Rattle.std.specs.Cmp.Lexicographic.{pointwise}
 use Rattle.std.specs.Prelude.{nat_eq}
-use Rattle.vs_log.specs.Events.{length_of, is_held, limit, last_place, magic}
+use Rattle.vs_binlog.specs.Heads.{length_of}
+use Rattle.vs_log.specs.Events.{is_held, limit, last_place, magic}
 use Rattle.vs_base.specs.declared.Why.{Why}
 use Rattle.vs_base.specs.declared.Why.TheVariants.{BadMagic, BadLength, TooLarge}
 use Rattle.vs_gtid.specs.Logs.{Log}

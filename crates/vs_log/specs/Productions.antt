@@ -19,7 +19,8 @@ use Rattle.vs_log.specs.declared.state.Counted.TheVariants.{Changed, Journaled}
 use Rattle.vs_log.specs.declared.state.Place.{Place}
 use Rattle.vs_log.specs.declared.state.Place.TheVariants.{Front, Between, Named, Inside}
 use Rattle.vs_log.specs.declared.state.State.{State}
-use Rattle.vs_log.specs.Events.{Event, time_of, kind_of, length_of, body_of, sort_of, is_held, limit, last_place, magic, joined, IsEvent}
+use Rattle.vs_binlog.specs.Heads.{Event, time_of, kind_of, length_of, body_of}
+use Rattle.vs_log.specs.Events.{sort_of, is_held, limit, last_place, magic, joined, IsEvent}
 use Rattle.vs_log.specs.Table.{Rules, format_refusal, gtid_in, single_work, step}
 use Rattle.vs_log.specs.Meaning.{front, head_refusal, has_magic, log_of}
 

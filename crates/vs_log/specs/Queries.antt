@@ -1,44 +1,14 @@
--- What a query event says: its schema, its text, and the first word of the text.
-use Rattle.std.specs.Prelude.{ℕ, ◌+◌, ◌-◌, ◌==◌, Bool, true, false, ◌&&◌, ◌||◌, not, nat_eq, nat_le, if◌then◌else◌, List, [], ◌∷◌, length, take, drop, map, slice_index, Result, Ok, Err}
-use Rattle.std.specs.List.{list_any, take_while}
+-- What a query event says to a log, by its schema and the first word of its text.
+use Rattle.std.specs.Prelude.{ℕ, Bool, ◌&&◌, nat_eq, if◌then◌else◌, List, [], ◌∷◌, Option, Some, None, Result, Ok, Err}
+use Rattle.std.specs.List.{list_any}
 use Rattle.std.specs.Cmp.Lexicographic.{pointwise}
-use Rattle.byteorder.specs.Endian.{little_number}
 use Rattle.vs_base.specs.declared.Why.{Why}
 use Rattle.vs_base.specs.declared.Why.TheVariants.{BadEvent}
+use Rattle.vs_binlog.specs.Bodies.{Said, query_body}
+use Rattle.vs_binlog.specs.Words.{first_word}
 use Rattle.vs_gtid.specs.declared.Work.TheVariants.{Ddl, Other}
 use Rattle.vs_log.specs.declared.state.Statement.{Statement}
 use Rattle.vs_log.specs.declared.state.Statement.TheVariants.{Begin, Commit, Savepoint, Xa, Single}
-
-abbrev pub is_blank : ℕ → Bool
-is_blank c = c == 32 || (c == 9 || (c == 13 || c == 10))
-
-abbrev pub is_between : ℕ → ℕ → ℕ → Bool
-is_between low high c = nat_le low c && nat_le c high
-
-abbrev pub is_word : ℕ → Bool
-is_word c = is_between 48 57 c || (is_between 65 90 c || (is_between 97 122 c || c == 95))
-
-abbrev pub upper : ℕ → ℕ
-upper c = if is_between 97 122 c then c - 32 else c
-
-abbrev pub begins_with : ℕ → List ℕ → Bool
-begins_with x [] = false
-begins_with x (c ∷ cs) = c == x
-
--- The text behind the blanks and the comments at its front; inside is true behind `/*`. A comment `/*!` stays.
-abbrev pub behind : Bool → List ℕ → List ℕ
-behind inside [] = []
-behind true (c ∷ []) = []
-behind true (c ∷ d ∷ cs) = if c == 42 && d == 47 then behind false cs else behind true (d ∷ cs)
-behind false (c ∷ []) = if is_blank c then [] else c ∷ []
-behind false (c ∷ d ∷ cs) =
-    if is_blank c then behind false (d ∷ cs)
-    else if c == 47 && (d == 42 && not (begins_with 33 cs)) then behind true cs
-    else c ∷ d ∷ cs
-
--- the first word, in upper case; it may be empty
-abbrev pub first_word : List ℕ → List ℕ
-first_word text = map upper (take_while is_word (behind false text))
 
 abbrev pub is_one_of : List (List ℕ) → List ℕ → Bool
 is_one_of words word = list_any (λ w. pointwise nat_eq w word) words
@@ -95,14 +65,10 @@ said keyspace schema text word =
     else if is_ddl word && pointwise nat_eq schema (schema_of keyspace) then Single (Ddl text)
     else Single Other
 
-abbrev pub said_at : List ℕ → ℕ → List ℕ → Statement
-said_at keyspace n rest = said keyspace (take n rest) (drop (n + 1) rest) (first_word (drop (n + 1) rest))
+-- what a query says in the log of a shard of the keyspace, where its body is within its layout
+abbrev pub statement_by : List ℕ → Option Said → Result Statement Why
+statement_by keyspace None = Err (BadEvent 2)
+statement_by keyspace (Some query) = Ok (said keyspace query.schema query.text (first_word query.text))
 
--- what a query event's body says: 13 bytes, the status, the schema, a 0, the text
 unfoldable pub statement_of : List ℕ → List ℕ → Result Statement Why
-statement_of keyspace body =
-    let n = slice_index body 8 in
-    let at = 13 + little_number 2 (drop 11 body) in
-    if nat_le (at + n + 1) (length body) && slice_index body (at + n) == 0
-    then Ok (said_at keyspace n (drop at body))
-    else Err (BadEvent 2)
+statement_of keyspace body = statement_by keyspace (query_body body)

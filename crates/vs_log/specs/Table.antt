@@ -2,7 +2,10 @@
 use Rattle.vs_base.specs.declared.Gtid.{Gtid}
 use Rattle.vs_base.specs.declared.Why.{Why}
 use Rattle.vs_base.specs.declared.Why.TheVariants.{NoFormat, BadVersion, Checksummed, BadEvent, BadOrder, NestedBegin, Anonymous, BadGtid, RepeatedGtid, Unsupported, UnsupportedStatement, TooLarge, TooManyIntervals, JournalNotAlone}
-use Rattle.vs_base.specs.Names.{gtid_of}
+use Rattle.vs_binlog.specs.declared.format.FormatRefusal.{FormatRefusal}
+use Rattle.vs_binlog.specs.declared.format.FormatRefusal.TheVariants as format
+use Rattle.vs_binlog.specs.declared.format.FormatRefusal.TheVariants.{ShortFormat, HeadLength}
+use Rattle.vs_binlog.specs.Bodies.{format_body, gtid_body}
 use Rattle.vs_gtid.specs.declared.Work.{Work}
 use Rattle.vs_gtid.specs.declared.Work.TheVariants.{Rows, Other, Journal}
 use Rattle.vs_gtid.specs.Positions.{Position, has}
@@ -16,9 +19,9 @@ use Rattle.vs_log.specs.declared.state.Place.TheVariants.{Front, Between, Named,
 use Rattle.vs_log.specs.declared.state.State.{State}
 use Rattle.vs_log.specs.declared.event.Sort.{Sort}
 use Rattle.vs_log.specs.declared.event.Sort.TheVariants.{AnonymousEvent, PassedOver, FormatEvent, PreviousEvent, GtidEvent, QueryEvent, XidEvent, MapEvent, RowsEvent, ForeignEvent}
-use Rattle.std.specs.Prelude.{ℕ, ◌+◌, ◌-◌, ◌==◌, true, false, not, nat_lt, if◌then◌else◌, List, [], ◌∷◌, ◌++◌, length, take, drop, slice_index, Option, Some, None, Result, Ok, Err}
-use Rattle.byteorder.specs.Endian.{little_number}
-use Rattle.vs_log.specs.Events.{Event, time_of, kind_of, length_of, body_of, sort_of, limit}
+use Rattle.std.specs.Prelude.{ℕ, ◌+◌, true, false, nat_lt, if◌then◌else◌, List, [], ◌∷◌, ◌++◌, length, Option, Some, None, Result, Ok, Err}
+use Rattle.vs_binlog.specs.Heads.{Event, time_of, kind_of, length_of, body_of}
+use Rattle.vs_log.specs.Events.{sort_of, limit}
 
 -- What the bodies of events mean, under the keyspace and the schema of the log.
 pub record Rules : Type 0 where
@@ -41,21 +44,23 @@ unless None x = Ok x
 unless (Some why) x = Err why
 
 -- what is wrong with a format description
+abbrev pub format_fault : Result (Unit {0}) FormatRefusal → Option Why
+format_fault (Ok x) = None
+format_fault (Err ShortFormat) = Some (BadEvent 15)
+format_fault (Err (format.BadVersion version)) = Some (BadVersion version)
+format_fault (Err (HeadLength length)) = Some (BadEvent 15)
+format_fault (Err (format.Checksummed kind)) = Some (Checksummed kind)
+
 abbrev pub format_refusal : List ℕ → Option Why
-format_refusal body =
-    if nat_lt (length body) 62 then Some (BadEvent 15)
-    else if not (little_number 2 body == 4) then Some (BadVersion (little_number 2 body))
-    else if not (slice_index body 56 == 19) then Some (BadEvent 15)
-    else if not (slice_index body (length body - 5) == 0) then Some (Checksummed (slice_index body (length body - 5)))
-    else None
+format_refusal body = format_fault (format_body body)
 
 abbrev pub or_refused : {A : Type 0} → Option A → Why → Result A Why
 or_refused None why = Err why
 or_refused (Some x) why = Ok x
 
--- the GTID of a GTID event: a flag, 16 bytes of UUID, 8 bytes of number; what follows is not read
+-- the GTID of a GTID event; a body that is long enough lacks one where the number is out of range
 unfoldable pub gtid_in : List ℕ → Result Gtid Why
-gtid_in body = if nat_lt (length body) 25 then Err (BadEvent 33) else or_refused (gtid_of (take 16 (drop 1 body)) (little_number 8 (drop 17 body))) BadGtid
+gtid_in body = if nat_lt (length body) 25 then Err (BadEvent 33) else or_refused (gtid_body body) BadGtid
 
 -- the work of a query that stands alone; BEGIN and XA don't
 abbrev pub single_work : Statement → Option Work

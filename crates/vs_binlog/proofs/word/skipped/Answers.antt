@@ -1,7 +1,7 @@
 use Rattle.std.proofs.Common.{◌≡◌, true, false, arith}
-use Rattle.vs_entries.specs.Words.{closes_comment, opens_comment}
-use Rattle.vs_entries.proofs.WordLemmas.{behind-closed, closes-length, behind-inside, behind-blank, behind-opened, opens-length}
-use Rattle.vs_entries.proofs.word.skipped.Goals as goal
+use Rattle.vs_binlog.specs.Words.{closes_comment, opens_comment}
+use Rattle.vs_binlog.proofs.WordLemmas.{behind-closed, closes-length, behind-inside, behind-blank, behind-opened, opens-length}
+use Rattle.vs_binlog.proofs.word.skipped.Goals as goal
 
 pub returns-then-ends_comment : goal.returns-then-ends_comment
 returns-then-ends_comment c =

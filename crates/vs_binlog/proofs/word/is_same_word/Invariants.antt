@@ -1,7 +1,7 @@
 use Rattle.std.proofs.Common.{◌≡◌, length, drop, map, nat_eq}
 use Rattle.std.specs.Cmp.Lexicographic.{pointwise}
-use Rattle.vs_log.specs.Queries.{upper}
-use Rattle.vs_entries.proofs.word.is_same_word.Given as goal
+use Rattle.vs_binlog.specs.Words.{upper}
+use Rattle.vs_binlog.proofs.word.is_same_word.Given as goal
 
 abbrev pub invariant-loop-i : goal.invariant-loop-i
 invariant-loop-i l =

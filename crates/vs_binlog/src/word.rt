@@ -1,13 +1,20 @@
 ghost use Rattle.std.specs.Prelude.{◌≡◌, ◌≤◌, ◌<◌, length, drop, map, nat_eq, MatchOption, false};
 ghost use Rattle.std.specs.List.{take_while};
 ghost use Rattle.std.specs.Cmp.Lexicographic.{pointwise};
-ghost use Rattle.vs_log.specs.Queries.{behind, is_blank, is_word, upper};
-ghost use Rattle.vs_entries.specs.Words.{closes_comment, opens_comment};
+ghost use Rattle.vs_binlog.specs.Words.{
+  behind,
+  closes_comment,
+  is_blank,
+  is_word,
+  opens_comment,
+  upper,
+  word_in,
+};
 
 /// The first word of a statement, as it stands there: behind blanks and comments, the longest run of
 /// letters, digits and `_`.
-pub fn first_word_in(text: &[u8]) -> &[u8]
-    ensures { result.now ≡ take_while is_word (behind false text.now) }
+pub fn first_word(text: &[u8]) -> &[u8]
+    ensures { result.now ≡ word_in text.now }
 {
     leading_word(text_behind_comments(text))
 }

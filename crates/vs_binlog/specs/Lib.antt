@@ -1,0 +1,5 @@
+pub mod Heads
+pub mod Bodies
+pub mod Lent
+pub mod Packed
+pub mod Words
