@@ -2,31 +2,34 @@
 use Rattle.std.proofs.Common.{◌≡◌, ◌≢◌, ℕ, Bool, true, false, List, [], ◌∷◌, ◌++◌, Option, Some, None, IsTrue, if◌then◌else◌, refl, sym, ap, subst, ◌∙◌, append-nil}
 use Rattle.std.specs.Prelude.{◌⊎◌, IfSome}
 use Rattle.vs_base.specs.declared.ShardName.{ShardName}
-use Rattle.vs_base.specs.declared.Gtid.{Gtid}
 use Rattle.vs_base.specs.Names.{same_name}
 use Rattle.vs_base.proofs.NameLemmas.{same_name-is}
 use Rattle.vs_gtid.specs.declared.Entry.{Entry}
-use Rattle.vs_gtid.specs.Positions.{Position, has, IsSubset}
+use Rattle.vs_gtid.specs.Positions.{Position, IsCanonical, IsSubset}
 use Rattle.vs_gtid.specs.Logs.{Log, HaveDistinctGtids}
 use Rattle.vs_outside.specs.Clusters.{Shard, ClusterBytes, find_shard}
+use Rattle.vs_outside.specs.Counts.{Rose}
 use Rattle.vs_outside.specs.Told.{Writes}
 use Rattle.vs_outside.proofs.ToldLemmas.{IsPrefixOf-refl, Writes-none, Writes-weaken}
 use Rattle.vs_gtid.specs.Missing.{IsFirstMissing}
 use Rattle.vs_entries.specs.Rules.{rules_of}
-use Rattle.vs_model.specs.Logs.{Cluster, LogsAreDistinct, log_of, due, stop}
+use Rattle.vs_model.specs.Logs.{Cluster, LogsAreDistinct, log_of, after, due, stop, IsPositionAfter}
 use Rattle.vs_model.specs.Vectors.{Place, place_of}
 use Rattle.vs_model.specs.Vectors.Place.{Streaming}
-use Rattle.vs_model.specs.Frames.{Frame}
-use Rattle.vs_model.specs.Requests.{First, OneShard, From}
+use Rattle.vs_model.specs.Frames.{Frame, last_vector}
+use Rattle.vs_model.specs.Reached.{IsSettled}
+use Rattle.vs_model.specs.Requests.{First, OneShard}
 use Rattle.vs_command.specs.declared.status.Status.{Status}
-use Rattle.vs_command.specs.declared.status.Status.TheVariants.{Done}
 use Rattle.vs_command.specs.declared.status.Status.TheVariants as statuses
-use Rattle.vs_command.specs.Sending.{IsTooLargeBehind, vector_at, position_after, entry_frames}
-use Rattle.vs_command.specs.Laws.{AreStatements, LawOfNewGtids, Laws}
+use Rattle.vs_command.specs.declared.start.Start.{Start}
+use Rattle.vs_command.specs.declared.start.Start.TheVariants.{At, Current}
+use Rattle.vs_command.specs.Sending.{IsNextTooLarge, vector_at, position_after, entry_frames}
+use Rattle.vs_command.specs.Laws.{AreBuilt, LawOfNewGtids, Laws}
 use Rattle.vs_command.specs.Line.{Asks}
-use Rattle.vs_command.specs.Streaming.Headline.{answers}
-use Rattle.vs_command.specs.Streaming.{Answers, Headline, HasCause, HasLogCause, IsFinished, IsStreamed, cluster_meant, shard_log, takes_all}
-use Rattle.vs_command.proofs.LegalLemmas.{after_all, steps_sent, copies_sent, last_sent, due_all, stop_none}
+use Rattle.vs_command.specs.Streaming.Headline.{asked}
+use Rattle.vs_command.specs.Streaming.Outcome.{unread, answers}
+use Rattle.vs_command.specs.Streaming.{Answers, Headline, HasCause, HasLogCause, HasSentAll, IsBeforeStream, IsStart, IsStreamed, IsStreamedFrom, IsUnread, Outcome, cluster_meant, shard_log, start_at, takes_all}
+use Rattle.vs_command.proofs.LegalLemmas.{after_all, after_built, steps_sent, copies_sent, last_sent, due_all, stop_none}
 
 -- the log of a shard of the cluster is what its bytes mean
 log_of-meant : (cluster : ClusterBytes) (s : ShardName) (shard : Shard) → find_shard cluster s ≡ Some shard → log_of (cluster_meant cluster) s ≡ shard_log s shard.log
@@ -48,8 +51,15 @@ distinct_meant law (x ∷ cluster) s = either (same_name x.name s) (shard_log x.
     either true l m p q = p
     either false l m p q = q
 
-first_of : (cluster : Cluster) (s : ShardName) → First cluster (OneShard s (From []) ∷ []) (vector_at s [])
-first_of cluster s = record { starts = ((refl, refl), tt); differ = refl; canonical = (tt, tt) }
+first_of : (cluster : Cluster) (s : ShardName) (start : Start) (whole : Type 0) (p : Position) → IsStart (log_of cluster s) start whole p → IsCanonical p →
+    First cluster (OneShard s (start_at start) ∷ []) (vector_at s p)
+first_of cluster s (At set) whole p is canonical = record { starts = ((refl, ap (λ q. Streaming q) is), tt); differ = refl; canonical = (canonical, tt) }
+first_of cluster s Current whole p is canonical = record { starts = ((refl, (p, is.0, refl, is.1)), tt); differ = refl; canonical = (canonical, tt) }
+
+-- where the whole log was there, a start from the end is behind all entries
+starts_at_end : (log : Log) (start : Start) (whole : Type 0) (p : Position) → IsStart log start whole p → start ≡ Current → whole → IsPositionAfter log.base log.entries p
+starts_at_end log (At set) whole p is current all = absurd (cc)
+starts_at_end log Current whole p is current all = subst (λ es. IsPositionAfter log.base es p) (is.2 all) is.1
 
 -- the one shard of the vector
 at_only : (s t : ShardName) (p : Position) (place : Place) → place_of (vector_at s p) t ≡ Some place → (s ≡ t) × (place ≡ Streaming p)
@@ -59,109 +69,113 @@ at_only s t p place h = go (same_name s t) refl h
     go true e found = (same_name-is s t e, cc)
     go false e found = absurd (cc)
 
--- the empty position contains nothing
-none_in : (g : Gtid) → IsTrue (has [] g) → ⊥
-unfolding has
-none_in g h = cc
-
-front_of : (xs ys : List Entry) → AreStatements (xs ++ ys) → AreStatements xs
+front_of : (xs ys : List Entry) → AreBuilt (xs ++ ys) → AreBuilt xs
 front_of [] ys h = tt
 front_of (x ∷ xs) ys h = (h.0, front_of xs ys h.1)
 
-finished_at : Laws → (cluster : Cluster) (s : ShardName) → LogsAreDistinct cluster → AreStatements (log_of cluster s).entries → (sent : List Entry) → (log_of cluster s).entries ≡ sent →
-    IsSubset (log_of cluster s).base [] → (log_of cluster s).fault ≡ None → IsFinished cluster (vector_at s (position_after [] sent))
-finished_at laws cluster s distinct statements sent are base fault =
+-- what is due behind the entries that were sent
+due_behind : Laws → (cluster : Cluster) (s : ShardName) → LogsAreDistinct cluster → AreBuilt (log_of cluster s).entries → (p : Position) (sent rest : List Entry) →
+    after (log_of cluster s) p ≡ sent ++ rest → due s (log_of cluster s) (position_after p sent) ≡ rest
+due_behind laws cluster s distinct built p sent rest are =
+    laws.due s (log_of cluster s) p (position_after p sent) sent rest (distinct s) (due_all s (log_of cluster s) p built ∙ are) (after_all p sent)
+
+settled_at : Laws → (cluster : Cluster) (s : ShardName) → LogsAreDistinct cluster → AreBuilt (log_of cluster s).entries → (p : Position) (sent rest : List Entry) →
+    after (log_of cluster s) p ≡ sent ++ rest → rest ≡ [] → IsSettled cluster (vector_at s (position_after p sent))
+settled_at laws cluster s distinct built p sent rest are none t place h =
     let log : Log = log_of cluster s in
-    let q : Position = position_after [] sent in
-    let all : due s log [] ≡ sent ++ [] = due_all s log statements ∙ are ∙ sym (append-nil sent) in
-    let none_due : due s log q ≡ [] = laws.due s log [] q sent [] (distinct s) all (after_all [] sent) in
-    let none_stops : stop s log q ≡ None = laws.stop s log [] q sent [] (distinct s) all (after_all [] sent) ∙ stop_none s log statements in
-    record {
-      settled = λ t place h.
-          let it = at_only s t q place h in
-          (q, it.1, subst (λ u. due u (log_of cluster u) q ≡ []) it.0 none_due, subst (λ u. stop u (log_of cluster u) q ≡ None) it.0 none_stops);
-      readable = λ t p h.
-          let it = at_only s t q (Streaming p) h in
-          (subst (λ u. IsSubset (log_of cluster u).base p) it.0 (λ g within. absurd (none_in g (base g within))), subst (λ u. (log_of cluster u).fault ≡ None) it.0 fault);
-    }
+    let q : Position = position_after p sent in
+    let it = at_only s t q place h in
+    let none_due : due s log q ≡ [] = due_behind laws cluster s distinct built p sent rest are ∙ none in
+    let none_stops : stop s log q ≡ None =
+    laws.stop s log p q sent rest (distinct s) (due_all s log p built ∙ are) (after_all p sent) ∙ stop_none s log p built in
+    (q, it.1, subst (λ u. due u (log_of cluster u) q ≡ []) it.0 none_due, subst (λ u. stop u (log_of cluster u) q ≡ None) it.0 none_stops)
 
--- what an answer says of a log, it says of the shard's log
-caused : (cluster : ClusterBytes) (s : ShardName) (log : Log) (status : Status) → find_shard cluster s ≢ None → log_of (cluster_meant cluster) s ≡ log → HasLogCause s log status → HasCause cluster s status
-caused cluster s log (statuses.Purged name missing) known is cause = (cause.0, subst (λ (l : Log). IsFirstMissing l.base [] missing) (sym is) cause.1)
-caused cluster s log (statuses.BadLog name offset why) known is cause = (cause.0, ap (λ (l : Log). l.fault) is ∙ cause.1)
-caused cluster s log (statuses.PositionTooLarge name) known is cause = (cause.0, subst (λ (l : Log). IsTooLargeBehind [] l.entries) (sym is) cause.1)
-caused cluster s log statuses.Done known is cause = known
-caused cluster s log statuses.Memory known is cause = tt
-caused cluster s log statuses.LinkFault known is cause = tt
-caused cluster s log statuses.Usage known is cause = absurd cause
-caused cluster s log (statuses.Request fault) known is cause = absurd cause
-caused cluster s log (statuses.UnknownShard name) known is cause = absurd cause
-caused cluster s log (statuses.FeedFault name) known is cause = absurd cause
-caused cluster s log statuses.InputFault known is cause = absurd cause
-caused cluster s log (statuses.OpenFault name) known is cause = absurd cause
+sent_all : Laws → (cluster : Cluster) (s : ShardName) → LogsAreDistinct cluster → AreBuilt (log_of cluster s).entries → (p : Position) (sent rest : List Entry) →
+    after (log_of cluster s) p ≡ sent ++ rest → rest ≡ [] → IsSubset (log_of cluster s).base p → HasSentAll cluster s p (last_vector (vector_at s p) (entry_frames s p sent))
+sent_all laws cluster s distinct built p sent rest are none base = record {
+  base = base;
+  settled = subst (λ v. IsSettled cluster v) (sym (last_sent s p sent)) (settled_at laws cluster s distinct built p sent rest are none);
+}
 
-pub Answers-streamed : Laws → (cluster : ClusterBytes) (s : ShardName) (shard : Shard) (status : Status) (written : List ℕ) → find_shard cluster s ≡ Some shard →
-    IsStreamed s (shard_log s shard.log) status written → HasLogCause s (shard_log s shard.log) status → Answers cluster s status written
-Answers-streamed laws cluster s shard status written found streamed cause =
+-- what an answer says of a log, it says of the shard and its vector
+caused : Laws → (cluster : Cluster) (s : ShardName) → LogsAreDistinct cluster → AreBuilt (log_of cluster s).entries → (p : Position) (sent rest : List Entry) (status : Status) →
+    after (log_of cluster s) p ≡ sent ++ rest → HasLogCause s (log_of cluster s) p sent rest status → HasCause cluster s p (entry_frames s p sent) status
+caused laws cluster s distinct built p sent rest statuses.Done are cause = (sent_all laws cluster s distinct built p sent rest are cause.0 cause.1, cause.2)
+caused laws cluster s distinct built p sent rest (statuses.BadLog name offset why) are cause =
+    (cause.0, cause.1, sent_all laws cluster s distinct built p sent rest are cause.2 cause.3)
+caused laws cluster s distinct built p sent rest (statuses.Purged name missing) are cause = (cause.0, cause.1, ap (λ es. entry_frames s p es) cause.2)
+caused laws cluster s distinct built p sent rest (statuses.PositionTooLarge name) are cause = (
+  cause.0,
+  record {
+    base = cause.2;
+    q = position_after p sent;
+    is = last_sent s p sent;
+    large = subst (λ es. IsNextTooLarge (position_after p sent) es) (sym (due_behind laws cluster s distinct built p sent rest are)) cause.1;
+  },
+)
+caused laws cluster s distinct built p sent rest statuses.LinkFault are cause = cause
+caused laws cluster s distinct built p sent rest statuses.Memory are cause = tt
+caused laws cluster s distinct built p sent rest statuses.Usage are cause = absurd cause
+caused laws cluster s distinct built p sent rest (statuses.Request fault) are cause = absurd cause
+caused laws cluster s distinct built p sent rest (statuses.UnknownShard name) are cause = absurd cause
+caused laws cluster s distinct built p sent rest (statuses.FeedFault name) are cause = absurd cause
+caused laws cluster s distinct built p sent rest statuses.InputFault are cause = absurd cause
+caused laws cluster s distinct built p sent rest (statuses.OpenFault name) are cause = absurd cause
+
+Answers-streamed : Laws → (cluster : ClusterBytes) (s : ShardName) (start : Start) (whole waited : Type 0) (shard : Shard) (status : Status) (written : List ℕ) (p : Position) →
+    ((waited → ⊥) → whole) → find_shard cluster s ≡ Some shard → IsStart (shard_log s shard.log) start whole p → IsCanonical p →
+    IsStreamed s (shard_log s shard.log) p status written → Answers cluster s start waited status written
+Answers-streamed laws cluster s start whole waited shard status written p unwaited found starts canonical streamed =
     let meant : log_of (cluster_meant cluster) s ≡ shard_log s shard.log = log_of-meant cluster s shard found in
     let distinct : LogsAreDistinct (cluster_meant cluster) = distinct_meant laws.new_gtids cluster in
     let log : Log = log_of (cluster_meant cluster) s in
-    let statements : AreStatements log.entries = subst (λ (l : Log). AreStatements l.entries) (sym meant) (laws.statements s.keyspace shard.log) in
-    let are : log.entries ≡ streamed.sent ++ streamed.rest = ap (λ (l : Log). l.entries) meant ∙ streamed.are in
-    let first : due s log [] ≡ streamed.sent ++ streamed.rest = due_all s log statements ∙ are in
-    let sent : AreStatements streamed.sent = front_of streamed.sent streamed.rest (subst (λ es. AreStatements es) are statements) in
-    let base : (streamed.sent ≡ []) ⊎ IsSubset log.base [] = subst (λ (l : Log). (streamed.sent ≡ []) ⊎ IsSubset l.base []) (sym meant) streamed.base in
-    let frames : List Frame = entry_frames s [] streamed.sent in
+    let built : AreBuilt log.entries = subst (λ (l : Log). AreBuilt l.entries) (sym meant) (laws.built s.keyspace shard.log) in
+    let here : IsStart log start whole p = subst (λ (l : Log). IsStart l start whole p) (sym meant) starts in
+    let are : after log p ≡ streamed.sent ++ streamed.rest = ap (λ (l : Log). after l p) meant ∙ streamed.are in
+    let sent : AreBuilt streamed.sent = front_of streamed.sent streamed.rest (subst (λ es. AreBuilt es) are (after_built log p built)) in
+    let base : (streamed.sent ≡ []) ⊎ IsSubset log.base p = subst (λ (l : Log). (streamed.sent ≡ []) ⊎ IsSubset l.base p) (sym meant) streamed.base in
+    let frames : List Frame = entry_frames s p streamed.sent in
     record {
-      v0 = vector_at s [];
+      known = λ absent. let clash : ◌≡◌ {A = Option Shard} (Some shard) None = sym found ∙ absent in cc;
+      p = p;
       frames = frames;
-      first = first_of (cluster_meant cluster) s;
-      legal = laws.steps (cluster_meant cluster) takes_all (vector_at s []) frames distinct (copies_sent s [] streamed.sent)
-          (steps_sent laws.transactions laws.due (cluster_meant cluster) s distinct [] streamed.sent streamed.rest sent first base streamed.canonical);
+      first = first_of (cluster_meant cluster) s start whole p here canonical;
+      at_end = λ current never. starts_at_end log start whole p here current (unwaited never);
+      legal = laws.steps (cluster_meant cluster) takes_all (vector_at s p) frames distinct (copies_sent s p streamed.sent)
+          (steps_sent laws.transactions laws.due (cluster_meant cluster) s distinct p streamed.sent streamed.rest sent (due_all s log p built ∙ are) base streamed.canonical);
       bytes = streamed.bytes;
       spelled = streamed.spelled;
       prefix = streamed.prefix;
       whole = streamed.whole;
-      finished = λ done.
-          let end = streamed.finished done in
-          let all : log.entries ≡ streamed.sent = are ∙ ap (λ l. streamed.sent ++ l) end.0 ∙ append-nil streamed.sent in
-          let within : IsSubset log.base [] = subst (λ (l : Log). IsSubset l.base []) (sym meant) end.1 in
-          let whole : log.fault ≡ None = ap (λ (l : Log). l.fault) meant ∙ end.2 in
-          subst (λ v. IsFinished (cluster_meant cluster) v) (sym (last_sent s [] streamed.sent))
-          (finished_at laws (cluster_meant cluster) s distinct statements streamed.sent all within whole);
-      cause = caused cluster s (shard_log s shard.log) status (λ absent. let clash : ◌≡◌ {A = Option Shard} (Some shard) None = sym found ∙ absent in cc) meant cause;
+      cause = caused laws (cluster_meant cluster) s distinct built p streamed.sent streamed.rest status are
+          (subst (λ (l : Log). HasLogCause s l p streamed.sent streamed.rest status) (sym meant) streamed.cause);
     }
 
--- nothing was written, and nothing is promised
-pub Answers-none : Laws → (cluster : ClusterBytes) (s : ShardName) (status : Status) → status ≢ Done → HasCause cluster s status → Answers cluster s status []
-Answers-none laws cluster s status other cause = record {
-  v0 = vector_at s [];
-  frames = [];
-  first = first_of (cluster_meant cluster) s;
-  legal = laws.steps (cluster_meant cluster) takes_all (vector_at s []) [] (distinct_meant laws.new_gtids cluster) (copies_sent s [] []) tt;
-  bytes = [];
-  spelled = refl;
-  prefix = IsPrefixOf-refl [];
-  whole = λ _. refl;
-  finished = λ done. absurd (other done);
-  cause = cause;
-}
+outcome_of : Laws → (cluster : ClusterBytes) (s : ShardName) (start : Start) (whole waited : Type 0) (shard : Shard) (status : Status) (written : List ℕ) →
+    ((waited → ⊥) → whole) → find_shard cluster s ≡ Some shard → IsStreamedFrom s (shard_log s shard.log) start whole status written → Outcome cluster s start waited status written
+outcome_of laws cluster s start whole waited shard status written unwaited found (◌⊎◌.inl none) = unread none.1 (subst (λ x. IsUnread cluster s x) (sym none.0) tt)
+outcome_of laws cluster s start whole waited shard status written unwaited found (◌⊎◌.inr from) =
+    answers (Answers-streamed laws cluster s start whole waited shard status written from.0 unwaited found from.1 from.2 from.3)
+
+never_marked : (mark : Option ℕ) (waited : Type 0) → (mark ≢ None → waited) → (waited → ⊥) → mark ≡ None
+never_marked None waited marked never = refl
+never_marked (Some n) waited marked never = absurd (never (marked (λ h. cc)))
 
 -- where the cluster is told, and the log is the shard's
-pub Writes-streamed : Laws → (told : Option ClusterBytes) (s : ShardName) (status : Status) (bytes : List ℕ) (before now : Option (List ℕ)) →
-    IfSome told (λ c. (shard : Shard) × (find_shard c s ≡ Some shard) × (bytes ≡ shard.log)) →
-    Writes before now (IsStreamed s (shard_log s bytes) status) → HasLogCause s (shard_log s bytes) status → IfSome told (λ c. Writes before now (Answers c s status))
-Writes-streamed laws None s status bytes before now fetched wrote cause = tt
-Writes-streamed laws (Some c) s status bytes before now (shard, found, is) wrote cause =
-    Writes-weaken (IsStreamed s (shard_log s bytes) status) (Answers c s status) before now
-    (λ w streamed. Answers-streamed laws c s shard status w found
-    (subst (λ b. IsStreamed s (shard_log s b) status w) is streamed) (subst (λ b. HasLogCause s (shard_log s b) status) is cause)) wrote
+pub Writes-streamed : Laws → (told : Option ClusterBytes) (s : ShardName) (start : Start) (mark : Option ℕ) (waited : Type 0) (status : Status) (bytes : List ℕ) (before now : Option (List ℕ)) →
+    IfSome told (λ c. (shard : Shard) × (find_shard c s ≡ Some shard) × (bytes ≡ shard.log)) → (mark ≢ None → waited) →
+    Writes before now (IsStreamedFrom s (shard_log s bytes) start (mark ≡ None) status) → IfSome told (λ c. Writes before now (Outcome c s start waited status))
+Writes-streamed laws None s start mark waited status bytes before now fetched marked wrote = tt
+Writes-streamed laws (Some c) s start mark waited status bytes before now (shard, found, is) marked wrote =
+    Writes-weaken (IsStreamedFrom s (shard_log s bytes) start (mark ≡ None) status) (Outcome c s start waited status) before now
+    (λ w streamed. outcome_of laws c s start (mark ≡ None) waited shard status w (never_marked mark waited marked) found
+    (subst (λ b. IsStreamedFrom s (shard_log s b) start (mark ≡ None) status w) is streamed)) wrote
 
 -- where nothing was written
-pub Writes-unanswered : Laws → (told : Option ClusterBytes) (s : ShardName) (status : Status) (sent : Option (List ℕ)) → status ≢ Done →
-    IfSome told (λ c. HasCause c s status) → IfSome told (λ c. Writes sent sent (Answers c s status))
-Writes-unanswered laws None s status sent other cause = tt
-Writes-unanswered laws (Some c) s status sent other cause = Writes-none (Answers c s status) sent (Answers-none laws c s status other cause)
+pub Writes-unread : (told : Option ClusterBytes) (s : ShardName) (start : Start) (waited : Type 0) (status : Status) (sent : Option (List ℕ)) →
+    IfSome told (λ c. IsUnread c s status) → IfSome told (λ c. Writes sent sent (Outcome c s start waited status))
+Writes-unread None s start waited status sent cause = tt
+Writes-unread (Some c) s start waited status sent cause = Writes-none (Outcome c s start waited status) sent (unread refl cause)
 
 pub told_always : (P : ClusterBytes → Type 0) (told : Option ClusterBytes) → ((c : ClusterBytes) → P c) → IfSome told P
 told_always P None all = tt
@@ -172,14 +186,17 @@ told_so P Q None f p = tt
 told_so P Q (Some c) f p = f c p
 
 -- what answers the line that is asked is the headline
-pub headline_answers : (told_before told : Option ClusterBytes) (left : Option (List ℕ)) (name : ShardName) (status : Status) (before now : Option (List ℕ)) →
-    told ≡ told_before → IfSome left (λ input. Asks input name) → IfSome told (λ c. Writes before now (Answers c name status)) →
-    IfSome told_before (λ c. IfSome left (λ input. Writes before now (Headline c input status)))
-headline_answers told_before told left name status before now same asks wrote =
-    told_so (λ c. Writes before now (Answers c name status)) (λ c. IfSome left (λ input. Writes before now (Headline c input status))) told_before
-    (λ c w. each left asks c w) (subst (λ t. IfSome t (λ c. Writes before now (Answers c name status))) same wrote)
+pub headline_asked : (told_before told : Option ClusterBytes) (left : Option (List ℕ)) (name : ShardName) (start : Start) (waits_before waits waits_now : ShardName → ℕ)
+    (status : Status) (before now : Option (List ℕ)) → told ≡ told_before → waits name ≡ waits_before name → IfSome left (λ input. Asks input name start) →
+    IfSome told (λ c. Writes before now (Outcome c name start (Rose (waits name) (waits_now name)) status)) →
+    IfSome told_before (λ c. IfSome left (λ input. Writes before now (Headline c (λ n. Rose (waits_before n) (waits_now n)) input status)))
+headline_asked told_before told left name start waits_before waits waits_now status before now same steady asks wrote =
+    told_so (λ c. Writes before now (Outcome c name start (Rose (waits name) (waits_now name)) status)) (λ c. IfSome left (λ input. Writes before now (Headline c (λ n. Rose (waits_before n) (waits_now n)) input status))) told_before
+    (λ c w. each left asks c w) (subst (λ t. IfSome t (λ c. Writes before now (Outcome c name start (Rose (waits name) (waits_now name)) status))) same wrote)
   where
-    each : (left : Option (List ℕ)) → IfSome left (λ input. Asks input name) → (c : ClusterBytes) → Writes before now (Answers c name status) →
-        IfSome left (λ input. Writes before now (Headline c input status))
+    each : (left : Option (List ℕ)) → IfSome left (λ input. Asks input name start) → (c : ClusterBytes) → Writes before now (Outcome c name start (Rose (waits name) (waits_now name)) status) →
+        IfSome left (λ input. Writes before now (Headline c (λ n. Rose (waits_before n) (waits_now n)) input status))
     each None asks c w = tt
-    each (Some input) asks c w = Writes-weaken (Answers c name status) (Headline c input status) before now (λ bytes a. answers name asks a) w
+    each (Some input) asks c w =
+        Writes-weaken (Outcome c name start (Rose (waits name) (waits_now name)) status) (Headline c (λ n. Rose (waits_before n) (waits_now n)) input status) before now
+        (λ bytes o. asked name start asks (subst (λ n. Outcome c name start (Rose n (waits_now name)) status bytes) steady o)) w

@@ -13,9 +13,10 @@ use Rattle.vs_gtid.specs.declared.Work.TheVariants.{Rows, Ddl, Other, Journal}
 use Rattle.vs_gtid.specs.declared.Entry.{Entry}
 use Rattle.vs_gtid.specs.Positions.{Position, has, IsSubset, IsCanonical}
 use Rattle.vs_gtid.specs.Joins.{added}
-use Rattle.vs_gtid.specs.Logs.{Log, IsStatement}
+use Rattle.vs_gtid.specs.Logs.{Log}
+use Rattle.vs_entries.specs.Rules.{IsBuilt}
 use Rattle.vs_gtid.proofs.JoinLemmas.{has-added}
-use Rattle.vs_model.specs.Logs.{Cluster, LogsAreDistinct, log_of, due, stop, own_of, journal_of, up_to_own, first_own, IsPositionAfter, is_gtid_of}
+use Rattle.vs_model.specs.Logs.{Cluster, LogsAreDistinct, log_of, after, due, stop, own_of, journal_of, up_to_own, first_own, IsPositionAfter, is_gtid_of}
 use Rattle.vs_model.specs.Vectors.{Vector, Place, place_of, moved}
 use Rattle.vs_model.specs.Vectors.Place.{Streaming}
 use Rattle.vs_model.specs.Frames.{Frame, last_vector}
@@ -24,7 +25,7 @@ use Rattle.vs_model.specs.Copy.{picked}
 use Rattle.vs_model.specs.Legal.{AllCopiedFollows, NoParticipantStands}
 use Rattle.vs_model.specs.Steps.{SendsTx, Steps}
 use Rattle.vs_command.specs.Sending.{vector_at, position_after, entry_frames, IsCanonicalAlong}
-use Rattle.vs_command.specs.Laws.{LawOfTransactions, LawOfDue, AreStatements}
+use Rattle.vs_command.specs.Laws.{LawOfTransactions, LawOfDue, AreBuilt}
 use Rattle.vs_command.specs.Streaming.{takes_all}
 
 -- the position with a GTID is the one after its entry
@@ -40,24 +41,25 @@ after_all p [] g = sym (or-false (has p g))
 after_all p (e ∷ es) g =
     after_all (added p e.gtid) es g ∙ ap (λ b. b || is_gtid_of es g) (has-added p e.gtid g) ∙ or_turned (has p g) (same_gtid e.gtid g) (is_gtid_of es g)
 
--- everything is taken of a statement
-taken : (s : ShardName) (g : Gtid) (t : ℕ) (w : Work) → IsStatement w →
+-- everything is taken of what is built
+taken : (s : ShardName) (g : Gtid) (t : ℕ) (w : Work) → IsBuilt w →
     ◌≡◌ {A = Entry} (record { gtid = g; time = t; work = w }) (picked (takes_all s) (record { gtid = g; time = t; work = w }))
 taken s g t (Ddl text) h = refl
 taken s g t Other h = refl
-taken s g t (Rows changes) h = absurd h
+taken s g t (Rows []) h = refl
+taken s g t (Rows (c ∷ changes)) h = absurd (cc)
 taken s g t (Journal j) h = absurd h
 
-not_foreign : (s : ShardName) (v : Vector) (w : Work) → IsStatement w → IfSome (journal_of w) (NoParticipantStands s v)
+not_foreign : (s : ShardName) (v : Vector) (w : Work) → IsBuilt w → IfSome (journal_of w) (NoParticipantStands s v)
 not_foreign s v (Ddl text) h = tt
 not_foreign s v Other h = tt
-not_foreign s v (Rows changes) h = absurd h
+not_foreign s v (Rows changes) h = tt
 not_foreign s v (Journal j) h = absurd h
 
-none_own : (s : ShardName) (w : Work) → IsStatement w → own_of s (journal_of w) ≡ None
+none_own : (s : ShardName) (w : Work) → IsBuilt w → own_of s (journal_of w) ≡ None
 none_own s (Ddl text) h = refl
 none_own s Other h = refl
-none_own s (Rows changes) h = absurd h
+none_own s (Rows changes) h = refl
 none_own s (Journal j) h = absurd h
 
 stands_at : (s : ShardName) (p : Position) → place_of (vector_at s p) s ≡ Some (Streaming p)
@@ -73,31 +75,31 @@ subset_added base p g within x h = subst IsTrue (sym (has-added p g x)) (or_true
     or_true true b h = refl
     or_true false b h = absurd (cc)
 
-sends : (cluster : Cluster) (s : ShardName) (p : Position) (e : Entry) (rest : List Entry) → IsStatement e.work → due s (log_of cluster s) p ≡ e ∷ rest →
+sends : (cluster : Cluster) (s : ShardName) (p : Position) (e : Entry) (rest : List Entry) → IsBuilt e.work → due s (log_of cluster s) p ≡ e ∷ rest →
     IsSubset (log_of cluster s).base p → IsCanonical (added p e.gtid) → SendsTx cluster takes_all (vector_at s p) s e (vector_at s (added p e.gtid))
-sends cluster s p e rest statement first base canonical = record {
+sends cluster s p e rest built first base canonical = record {
   p = p;
   e = e;
   rest = rest;
   q = added p e.gtid;
   streams = stands_at s p;
   first = first;
-  told_is = taken s e.gtid e.time e.work statement;
+  told_is = taken s e.gtid e.time e.work built;
   base = base;
   grown = after_one p e;
   vector = moved_at s p (added p e.gtid);
   canonical = (canonical, tt);
-  foreign = not_foreign s (vector_at s p) e.work statement;
+  foreign = not_foreign s (vector_at s p) e.work built;
 }
 
 pub steps_sent : LawOfTransactions → LawOfDue → (cluster : Cluster) (s : ShardName) → LogsAreDistinct cluster → (p : Position) (sent rest : List Entry) →
-    AreStatements sent → due s (log_of cluster s) p ≡ sent ++ rest → (sent ≡ []) ⊎ IsSubset (log_of cluster s).base p → IsCanonicalAlong p sent →
+    AreBuilt sent → due s (log_of cluster s) p ≡ sent ++ rest → (sent ≡ []) ⊎ IsSubset (log_of cluster s).base p → IsCanonicalAlong p sent →
     Steps cluster takes_all (vector_at s p) (entry_frames s p sent)
-steps_sent tx due_law cluster s distinct p [] rest statements are base canonical = tt
-steps_sent tx due_law cluster s distinct p (e ∷ es) rest statements are (◌⊎◌.inl none) canonical = absurd (cc)
-steps_sent tx due_law cluster s distinct p (e ∷ es) rest statements are (◌⊎◌.inr base) canonical = (
-  tx cluster takes_all (vector_at s p) (vector_at s (added p e.gtid)) s e distinct (sends cluster s p e (es ++ rest) statements.0 are base canonical.0),
-  steps_sent tx due_law cluster s distinct (added p e.gtid) es rest statements.1
+steps_sent tx due_law cluster s distinct p [] rest built are base canonical = tt
+steps_sent tx due_law cluster s distinct p (e ∷ es) rest built are (◌⊎◌.inl none) canonical = absurd (cc)
+steps_sent tx due_law cluster s distinct p (e ∷ es) rest built are (◌⊎◌.inr base) canonical = (
+  tx cluster takes_all (vector_at s p) (vector_at s (added p e.gtid)) s e distinct (sends cluster s p e (es ++ rest) built.0 are base canonical.0),
+  steps_sent tx due_law cluster s distinct (added p e.gtid) es rest built.1
       (due_law s (log_of cluster s) p (added p e.gtid) (e ∷ []) (es ++ rest) (distinct s) are (after_one p e))
       (◌⊎◌.inr (subset_added (log_of cluster s).base p e.gtid base)) canonical.1,
 )
@@ -116,22 +118,30 @@ pub last_sent : (s : ShardName) (p : Position) (sent : List Entry) → last_vect
 last_sent s p [] = refl
 last_sent s p (e ∷ es) = last_sent s (added p e.gtid) es
 
--- of a log of statements everything is due from the empty position, and nothing stops it
-due_of : (s : ShardName) (es : List Entry) → AreStatements es → up_to_own s (filter (λ e. not (has [] e.gtid)) es) ≡ es
-unfolding has
-due_of s [] h = refl
-due_of s (e ∷ es) h =
-    let rest : List Entry = up_to_own s (filter (λ x. not (has [] x.gtid)) es) in
-    ap (λ o. if is_some o then [] else e ∷ rest) (none_own s e.work h.0) ∙ ap (λ l. e ∷ l) (due_of s es h.1)
+-- of what is built no entry is an own journal
+up_to_all : (s : ShardName) (es : List Entry) → AreBuilt es → up_to_own s es ≡ es
+up_to_all s [] h = refl
+up_to_all s (e ∷ es) h =
+    ap (λ o. if is_some o then [] else e ∷ up_to_own s es) (none_own s e.work h.0) ∙ ap (λ l. e ∷ l) (up_to_all s es h.1)
 
-stop_of : (s : ShardName) (es : List Entry) → AreStatements es → first_own s (filter (λ e. not (has [] e.gtid)) es) ≡ None
-unfolding has
-stop_of s [] h = refl
-stop_of s (e ∷ es) h =
-    ap (λ o. option_or o (first_own s (filter (λ x. not (has [] x.gtid)) es))) (none_own s e.work h.0) ∙ stop_of s es h.1
+none_first : (s : ShardName) (es : List Entry) → AreBuilt es → first_own s es ≡ None
+none_first s [] h = refl
+none_first s (e ∷ es) h = ap (λ o. option_or o (first_own s es)) (none_own s e.work h.0) ∙ none_first s es h.1
 
-pub due_all : (s : ShardName) (log : Log) → AreStatements log.entries → due s log [] ≡ log.entries
-due_all s log h = due_of s log.entries h
+kept_built : (f : Entry → Bool) (es : List Entry) → AreBuilt es → AreBuilt (filter f es)
+kept_built f [] h = tt
+kept_built f (e ∷ es) h = go (f e) (kept_built f es h.1)
+  where
+    go : (b : Bool) → AreBuilt (filter f es) → AreBuilt (if b then e ∷ filter f es else filter f es)
+    go true rest = (h.0, rest)
+    go false rest = rest
 
-pub stop_none : (s : ShardName) (log : Log) → AreStatements log.entries → stop s log [] ≡ None
-stop_none s log h = stop_of s log.entries h
+pub after_built : (log : Log) (p : Position) → AreBuilt log.entries → AreBuilt (after log p)
+after_built log p h = kept_built (λ e. not (has p e.gtid)) log.entries h
+
+-- so all entries that the position lacks are due, and nothing stops it
+pub due_all : (s : ShardName) (log : Log) (p : Position) → AreBuilt log.entries → due s log p ≡ after log p
+due_all s log p h = up_to_all s (after log p) (after_built log p h)
+
+pub stop_none : (s : ShardName) (log : Log) (p : Position) → AreBuilt log.entries → stop s log p ≡ None
+stop_none s log p h = none_first s (after log p) (after_built log p h)

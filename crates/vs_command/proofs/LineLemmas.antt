@@ -1,15 +1,16 @@
 -- Lines, and what stands before the first byte of a value.
 use Rattle.std.proofs.Common.{◌≡◌, ◌≢◌, ◌≤◌, ◌<◌, ◌+◌, ◌∙◌, ℕ, List, [], ◌∷◌, ◌++◌, Bool, true, false, length, take, get_or, Option, Some, None, refl, sym, ap, subst, arith, append_assoc, length-append, nat_eq, nat_le, not, ◌&&◌}
-use Rattle.std.specs.Prelude.{codes, IfSome, IsSomeAnd, IsTrue, MatchOption}
+use Rattle.std.specs.Prelude.{◌==◌, codes, IfSome, IsSomeAnd, IsTrue}
 use Rattle.std.specs.List.{list_all}
 use Rattle.std.specs.Cmp.Lexicographic.{pointwise}
-use Rattle.std.proofs.lemmas.Bool.{and_parts, eq-eqb, leb-true}
+use Rattle.std.proofs.lemmas.Bool.{and_parts, eq-eqb, eqb-true, leb-true}
 use Rattle.std.proofs.lemmas.List.{take_more}
 use Rattle.std.proofs.lemmas.Slice.Eq.{bytes_eq-Decides}
 use Rattle.vs_base.specs.Names.{FitsName}
 use Rattle.vs_base.specs.declared.ShardName.{ShardName}
 use Rattle.vs_outside.specs.Names.{has_name_length, is_dots, is_keyspace_text, is_name_byte, is_shard_byte, is_shard_text}
-use Rattle.vs_command.specs.Line.{Asks, BeginsWithLine, EndsLine, HasLongLine, IsAbsent, IsLineOf, IsSplit, IsTaken, line_of}
+use Rattle.vs_command.specs.declared.start.Start.{Start}
+use Rattle.vs_command.specs.Line.{Asks, BeginsWithLine, EndsLine, HasForm, HasLongLine, IsAbsent, IsLineOf, IsRefusedAt, IsSplit, IsTaken, StartsAs, line_of}
 
 pub absent-append : (c : ℕ) (xs ys : List ℕ) → IsAbsent c xs → IsAbsent c ys → IsAbsent c (xs ++ ys)
 absent-append c [] ys p q = q
@@ -83,8 +84,8 @@ shard-length text h =
 slashed : (k s t : List ℕ) → k ++ 47 ∷ [] ++ s ++ t ≡ k ++ 47 ∷ (s ++ t)
 slashed k s t = append_assoc (k ++ 47 ∷ []) s t ∙ append_assoc k (47 ∷ []) (s ++ t)
 
-line-slashed : (name : ShardName) → line_of name ≡ name.keyspace ++ 47 ∷ (name.shard ++ 32 ∷ codes "MySQL56/")
-line-slashed name = slashed name.keyspace name.shard (codes " MySQL56/")
+line-slashed : (name : ShardName) (text : List ℕ) → line_of name text ≡ name.keyspace ++ 47 ∷ (name.shard ++ 32 ∷ text)
+line-slashed name text = slashed name.keyspace name.shard (32 ∷ text)
 
 pub absent-keyspace : (c : ℕ) (text : List ℕ) → is_name_byte c ≡ false → IsTrue (is_keyspace_text text) → IsAbsent c text
 absent-keyspace c text out h = absent-passed is_name_byte c text out (keyspace-bytes text h)
@@ -95,104 +96,105 @@ absent-shard c text out h = absent-passed is_shard_byte c text out (shard-bytes 
 differs : (a b : ℕ) → nat_eq a b ≡ false → a ≢ b
 differs a b h e = let t : true ≡ false = sym (eq-eqb a b e) ∙ h in cc
 
--- the line of a name has no line feed
-absent-line : (line : List ℕ) (name : ShardName) → IsLineOf line name → IsAbsent 10 (line_of name)
-absent-line line name of =
-    absent-append 10 (name.keyspace ++ codes "/" ++ name.shard) (codes " MySQL56/")
+-- the line of a name has no line feed where its text has none
+absent-line : (name : ShardName) (text : List ℕ) → IsLineOf (line_of name text) name text → IsAbsent 10 text → IsAbsent 10 (line_of name text)
+absent-line name text of whole =
+    absent-append 10 (name.keyspace ++ codes "/" ++ name.shard) (32 ∷ text)
     (absent-append 10 (name.keyspace ++ codes "/") name.shard
     (absent-append 10 name.keyspace (codes "/") (absent-keyspace 10 name.keyspace refl of.keyspace) (differs 47 10 refl, tt))
     (absent-shard 10 name.shard refl of.shard))
-    (differs 32 10 refl, (differs 77 10 refl, (differs 121 10 refl, (differs 83 10 refl, (differs 81 10 refl, (differs 76 10 refl, (differs 53 10 refl, (differs 54 10 refl, (differs 47 10 refl, tt)))))))))
+    (differs 32 10 refl, whole)
 
 -- a line with no slash asks for no shard
-pub asks-no-slash : (line : List ℕ) → IsAbsent 47 line → (name : ShardName) → IsLineOf line name → ⊥
-asks-no-slash line absent name of =
-    absent-not 47 name.keyspace (name.shard ++ 32 ∷ codes "MySQL56/") (subst (IsAbsent 47) (of.is ∙ line-slashed name) absent)
+pub asks-no-slash : (line : List ℕ) → IsAbsent 47 line → (name : ShardName) (text : List ℕ) → IsLineOf line name text → ⊥
+asks-no-slash line absent name text of =
+    absent-not 47 name.keyspace (name.shard ++ 32 ∷ text) (subst (IsAbsent 47) (of.is ∙ line-slashed name text) absent)
 
 -- the parts of a line that asks
-pub line-keyspace : (line a b : List ℕ) → IsSplit line 47 a b → (name : ShardName) → IsLineOf line name → a ≡ name.keyspace
-line-keyspace line a b split name of =
-    split-front 47 a b name.keyspace (name.shard ++ 32 ∷ codes "MySQL56/") split.absent (absent-keyspace 47 name.keyspace refl of.keyspace) (sym split.is ∙ of.is ∙ line-slashed name)
+line-keyspace : (line a b : List ℕ) → IsSplit line 47 a b → (name : ShardName) (text : List ℕ) → IsLineOf line name text → a ≡ name.keyspace
+line-keyspace line a b split name text of =
+    split-front 47 a b name.keyspace (name.shard ++ 32 ∷ text) split.absent (absent-keyspace 47 name.keyspace refl of.keyspace) (sym split.is ∙ of.is ∙ line-slashed name text)
 
-line-back : (line a b : List ℕ) → IsSplit line 47 a b → (name : ShardName) → IsLineOf line name → b ≡ name.shard ++ 32 ∷ codes "MySQL56/"
-line-back line a b split name of =
-    split-back 47 a b name.keyspace (name.shard ++ 32 ∷ codes "MySQL56/") split.absent (absent-keyspace 47 name.keyspace refl of.keyspace) (sym split.is ∙ of.is ∙ line-slashed name)
+line-back : (line a b : List ℕ) → IsSplit line 47 a b → (name : ShardName) (text : List ℕ) → IsLineOf line name text → b ≡ name.shard ++ 32 ∷ text
+line-back line a b split name text of =
+    split-back 47 a b name.keyspace (name.shard ++ 32 ∷ text) split.absent (absent-keyspace 47 name.keyspace refl of.keyspace) (sym split.is ∙ of.is ∙ line-slashed name text)
 
-pub line-shard : (line a b s p : List ℕ) → IsSplit line 47 a b → IsSplit b 32 s p → (name : ShardName) → IsLineOf line name → s ≡ name.shard
-line-shard line a b s p split again name of =
-    split-front 32 s p name.shard (codes "MySQL56/") again.absent (absent-shard 32 name.shard refl of.shard) (sym again.is ∙ line-back line a b split name of)
+line-shard : (line a b s p : List ℕ) → IsSplit line 47 a b → IsSplit b 32 s p → (name : ShardName) (text : List ℕ) → IsLineOf line name text → s ≡ name.shard
+line-shard line a b s p split again name text of =
+    split-front 32 s p name.shard text again.absent (absent-shard 32 name.shard refl of.shard) (sym again.is ∙ line-back line a b split name text of)
 
-pub line-position : (line a b s p : List ℕ) → IsSplit line 47 a b → IsSplit b 32 s p → (name : ShardName) → IsLineOf line name → p ≡ codes "MySQL56/"
-line-position line a b s p split again name of =
-    split-back 32 s p name.shard (codes "MySQL56/") again.absent (absent-shard 32 name.shard refl of.shard) (sym again.is ∙ line-back line a b split name of)
+line-text : (line a b s p : List ℕ) → IsSplit line 47 a b → IsSplit b 32 s p → (name : ShardName) (text : List ℕ) → IsLineOf line name text → p ≡ text
+line-text line a b s p split again name text of =
+    split-back 32 s p name.shard text again.absent (absent-shard 32 name.shard refl of.shard) (sym again.is ∙ line-back line a b split name text of)
 
-pub asks-no-blank : (line a b : List ℕ) → IsSplit line 47 a b → IsAbsent 32 b → (name : ShardName) → IsLineOf line name → ⊥
-asks-no-blank line a b split absent name of = absent-not 32 name.shard (codes "MySQL56/") (subst (IsAbsent 32) (line-back line a b split name of) absent)
+pub asks-no-blank : (line a b : List ℕ) → IsSplit line 47 a b → IsAbsent 32 b → (name : ShardName) (text : List ℕ) → IsLineOf line name text → ⊥
+asks-no-blank line a b split absent name text of = absent-not 32 name.shard text (subst (IsAbsent 32) (line-back line a b split name text of) absent)
 
 not_both : (b : Bool) → b ≡ false → b ≡ true → ⊥
 not_both b p q = let t : true ≡ false = sym q ∙ p in cc
 
-pub asks-other-position : (line a b s p t : List ℕ) → IsSplit line 47 a b → IsSplit b 32 s p → t ≡ codes "MySQL56/" → pointwise nat_eq p t ≡ false → (name : ShardName) → IsLineOf line name → ⊥
-asks-other-position line a b s p t split again text differ name of =
-    not_both _ differ ((bytes_eq-Decides p t).1 (line-position line a b s p split again name of ∙ sym text))
+pub asks-no-text : (line a b s p : List ℕ) → IsSplit line 47 a b → IsSplit b 32 s p → p ≡ [] → (name : ShardName) (text : List ℕ) → IsLineOf line name text → ⊥
+asks-no-text line a b s p split again empty name text of = of.some (sym (line-text line a b s p split again name text of) ∙ empty)
 
-pub asks-other-keyspace : (line a b : List ℕ) → IsSplit line 47 a b → is_keyspace_text a ≡ false → (name : ShardName) → IsLineOf line name → ⊥
-asks-other-keyspace line a b split out name of = not_both _ out (subst (λ t. IsTrue (is_keyspace_text t)) (sym (line-keyspace line a b split name of)) of.keyspace)
+pub asks-other-keyspace : (line a b : List ℕ) → IsSplit line 47 a b → is_keyspace_text a ≡ false → (name : ShardName) (text : List ℕ) → IsLineOf line name text → ⊥
+asks-other-keyspace line a b split out name text of = not_both _ out (subst (λ t. IsTrue (is_keyspace_text t)) (sym (line-keyspace line a b split name text of)) of.keyspace)
 
-pub asks-other-shard : (line a b s p : List ℕ) → IsSplit line 47 a b → IsSplit b 32 s p → is_shard_text s ≡ false → (name : ShardName) → IsLineOf line name → ⊥
-asks-other-shard line a b s p split again out name of = not_both _ out (subst (λ t. IsTrue (is_shard_text t)) (sym (line-shard line a b s p split again name of)) of.shard)
+pub asks-other-shard : (line a b s p : List ℕ) → IsSplit line 47 a b → IsSplit b 32 s p → is_shard_text s ≡ false → (name : ShardName) (text : List ℕ) → IsLineOf line name text → ⊥
+asks-other-shard line a b s p split again out name text of = not_both _ out (subst (λ t. IsTrue (is_shard_text t)) (sym (line-shard line a b s p split again name text of)) of.shard)
 
--- the name of the parts, where they passed
-pub line-named : (line a b s p t k h : List ℕ) (o : Option ShardName) → IsSplit line 47 a b → IsSplit b 32 s p → t ≡ codes "MySQL56/" → pointwise nat_eq p t ≡ true →
-    is_keyspace_text a ≡ true → is_shard_text s ≡ true → k ≡ a → h ≡ s →
-    MatchOption o (¬ FitsName k h) (λ n. (n.keyspace ≡ k) × (n.shard ≡ h)) → MatchOption o ((name : ShardName) → IsLineOf line name → ⊥) (IsLineOf line)
-line-named line a b s p t k h None split again text same keyspace shard ka hs made =
-    absurd (made (subst (λ x. length x ≤ 64) (sym ka) (keyspace-length a keyspace), subst (λ x. length x ≤ 64) (sym hs) (shard-length s shard)))
-line-named line a b s p t k h (Some n) split again text same keyspace shard ka hs made =
+-- the parts that passed fit a name
+pub parts-fit : (a s k h : List ℕ) → is_keyspace_text a ≡ true → is_shard_text s ≡ true → k ≡ a → h ≡ s → FitsName k h
+parts-fit a s k h keyspace shard ka hs =
+    (subst (λ x. length x ≤ 64) (sym ka) (keyspace-length a keyspace), subst (λ x. length x ≤ 64) (sym hs) (shard-length s shard))
+
+-- the line of the name of these parts
+pub line-named : (line a b s p k h : List ℕ) (n : ShardName) → IsSplit line 47 a b → IsSplit b 32 s p → p ≢ [] →
+    is_keyspace_text a ≡ true → is_shard_text s ≡ true → k ≡ a → h ≡ s → (n.keyspace ≡ k) × (n.shard ≡ h) → IsLineOf line n p
+line-named line a b s p k h n split again some keyspace shard ka hs made =
     let is_a : n.keyspace ≡ a = made.0 ∙ ka in
     let is_s : n.shard ≡ s = made.1 ∙ hs in
-    let position : p ≡ codes "MySQL56/" = (bytes_eq-Decides p t).0 same ∙ text in
     record {
-      is = split.is ∙ ap (λ x. a ++ 47 ∷ x) (again.is ∙ ap (λ x. s ++ 32 ∷ x) position) ∙ ap (λ x. x ++ 47 ∷ (s ++ 32 ∷ codes "MySQL56/")) (sym is_a) ∙ ap (λ x. n.keyspace ++ 47 ∷ (x ++ 32 ∷ codes "MySQL56/")) (sym is_s) ∙ sym (line-slashed n);
+      is = split.is ∙ ap (λ x. a ++ 47 ∷ x) again.is ∙ ap (λ x. x ++ 47 ∷ (s ++ 32 ∷ p)) (sym is_a) ∙ ap (λ x. n.keyspace ++ 47 ∷ (x ++ 32 ∷ p)) (sym is_s) ∙ sym (line-slashed n p);
       keyspace = subst (λ x. IsTrue (is_keyspace_text x)) (sym is_a) keyspace;
       shard = subst (λ x. IsTrue (is_shard_text x)) (sym is_s) shard;
+      some = some;
     }
 
-line_of_asks : (bytes : List ℕ) (name : ShardName) → Asks bytes name → IsLineOf (line_of name) name
-line_of_asks bytes name asks = record { is = refl; keyspace = asks.keyspace; shard = asks.shard }
-
-begins-asks-none : (bytes line : List ℕ) → BeginsWithLine bytes line → ((name : ShardName) → IsLineOf line name → ⊥) → (name : ShardName) → Asks bytes name → ⊥
-begins-asks-none bytes line begins none name asks =
-    none name (record {
-      is = same-line line begins.rest (line_of name) asks.rest begins.whole (absent-line (line_of name) name (line_of_asks bytes name asks)) begins.ends asks.ends (sym begins.is ∙ asks.is);
-      keyspace = asks.keyspace;
-      shard = asks.shard;
+-- where the first line is none of the form, the input has none
+pub begins-no-form : (bytes line : List ℕ) → BeginsWithLine bytes line → ((name : ShardName) (text : List ℕ) → IsLineOf line name text → ⊥) → (name : ShardName) (text : List ℕ) → HasForm bytes name text → ⊥
+begins-no-form bytes line begins none name text form =
+    none name text (record {
+      is = same-line line begins.rest (line_of name text) form.rest begins.whole (absent-line name text form.line form.whole) begins.ends form.ends (sym begins.is ∙ form.is);
+      keyspace = form.line.keyspace;
+      shard = form.line.shard;
+      some = form.line.some;
     })
 
--- where the first line is no name's, the input asks for none
-pub read-asks-none : (told : Option (List ℕ)) (line text : List ℕ) (o : Option ShardName) → o ≡ None → text ≡ line →
-    MatchOption o ((name : ShardName) → IsLineOf text name → ⊥) (IsLineOf text) → IfSome told (λ bytes. BeginsWithLine bytes line) → IfSome told (λ bytes. (name : ShardName) → Asks bytes name → ⊥)
-read-asks-none None line text o none same asked begins = tt
-read-asks-none (Some bytes) line text o none same asked begins =
-    let no_name = subst (λ x. MatchOption x ((name : ShardName) → IsLineOf text name → ⊥) (IsLineOf text)) none asked in
-    begins-asks-none bytes line begins (subst (λ x. (name : ShardName) → IsLineOf x name → ⊥) same no_name)
+pub absent-back : (c : ℕ) (xs ys : List ℕ) → IsAbsent c (xs ++ ys) → IsAbsent c ys
+absent-back c [] ys p = p
+absent-back c (x ∷ xs) ys p = absent-back c xs ys p.1
 
-line-length : (name : ShardName) → length (line_of name) ≤ 138
-line-length name =
-    let p = name.keyspace_fits in
-    let q = name.shard_fits in
-    omega (arith, length-append (name.keyspace ++ codes "/" ++ name.shard) (codes " MySQL56/"), length-append (name.keyspace ++ codes "/") name.shard, length-append name.keyspace (codes "/"))
+-- the input has the form of its first line
+pub begins-form : (bytes line : List ℕ) (name : ShardName) (text : List ℕ) → BeginsWithLine bytes line → length line < 1048576 → IsLineOf line name text → HasForm bytes name text
+begins-form bytes line name text begins short of = record {
+  rest = begins.rest;
+  is = begins.is ∙ ap (λ x. x ++ begins.rest) of.is;
+  ends = begins.ends;
+  line = subst (λ x. IsLineOf x name text) of.is of;
+  whole = absent-back 10 (name.keyspace ++ codes "/" ++ name.shard ++ codes " ") text (subst (IsAbsent 10) (of.is ∙ sym (append_assoc (name.keyspace ++ codes "/" ++ name.shard) (codes " ") text)) begins.whole);
+  fits = subst (λ x. length x < 1048576) of.is short;
+}
 
-long-asks-none : (bytes : List ℕ) → HasLongLine bytes 256 → (name : ShardName) → Asks bytes name → ⊥
-long-asks-none bytes long name asks =
-    let within = within_line long.front long.rest (line_of name) asks.rest long.whole asks.ends (sym long.is ∙ asks.is) in
-    let few = line-length name in
-    absurd (omega (arith, within, few, long.count_is))
+-- a line that is too long has no form
+pub long-no-form : (bytes : List ℕ) → HasLongLine bytes 1048576 → (name : ShardName) (text : List ℕ) → HasForm bytes name text → ⊥
+long-no-form bytes long name text form =
+    let within = within_line long.front long.rest (line_of name text) form.rest long.whole form.ends (sym long.is ∙ form.is) in
+    absurd (omega (arith, within, form.fits, long.count_is))
 
--- where the first line is longer than any that asks, the input asks for none
-pub read-long-asks-none : (told : Option (List ℕ)) → IfSome told (λ bytes. HasLongLine bytes 256) → IfSome told (λ bytes. (name : ShardName) → Asks bytes name → ⊥)
-read-long-asks-none None long = tt
-read-long-asks-none (Some bytes) long = long-asks-none bytes long
+-- where the bytes are told
+pub told_then : (P Q : List ℕ → Type 0) (told : Option (List ℕ)) → ((bytes : List ℕ) → P bytes → Q bytes) → IfSome told P → IfSome told Q
+told_then P Q None f p = tt
+told_then P Q (Some bytes) f p = f bytes p
 
 -- What was read so far, and what a read of one byte makes of it.
 abbrev pub IsRead : Option (List ℕ) → Option (List ℕ) → List ℕ → Type 0
@@ -231,3 +233,33 @@ line-long (Some bytes) (Some after) line count many whole read = record { front 
 -- one more byte is not the one sought
 pub absent-more : (c : ℕ) (xs : List ℕ) (i : ℕ) → i < length xs → get_or xs i 0 ≢ c → IsAbsent c (take i xs) → IsAbsent c (take (i + 1) xs)
 absent-more c xs i inside other absent = subst (IsAbsent c) (sym (take_more xs i 0 inside)) (absent-append c (take i xs) (get_or xs i 0 ∷ []) absent (other, tt))
+
+pub empty_text : (xs : List ℕ) → (length xs == 0) ≡ true → xs ≡ []
+empty_text [] h = refl
+empty_text (x ∷ xs) h = let none : length (x ∷ xs) ≡ 0 = eqb-true (length (x ∷ xs)) 0 h in absurd (omega (arith, none))
+
+-- the input has no form where its first line has none
+pub read-no-form : (told : Option (List ℕ)) (line text : List ℕ) → text ≡ line → ((name : ShardName) (says : List ℕ) → IsLineOf text name says → ⊥) →
+    IfSome told (λ bytes. BeginsWithLine bytes line) → IfSome told (λ bytes. (name : ShardName) (says : List ℕ) → HasForm bytes name says → ⊥)
+read-no-form told line text same none begins =
+    told_then (λ bytes. BeginsWithLine bytes line) (λ bytes. (name : ShardName) (says : List ℕ) → HasForm bytes name says → ⊥) told
+    (λ bytes b. begins-no-form bytes line b (subst (λ x. (name : ShardName) (says : List ℕ) → IsLineOf x name says → ⊥) same none)) begins
+
+-- and that of its first line
+pub read-form : (told : Option (List ℕ)) (line text : List ℕ) (name : ShardName) (says : List ℕ) → text ≡ line → IsLineOf text name says → length line < 1048576 →
+    IfSome told (λ bytes. BeginsWithLine bytes line) → IfSome told (λ bytes. HasForm bytes name says)
+read-form told line text name says same of short begins =
+    told_then (λ bytes. BeginsWithLine bytes line) (λ bytes. HasForm bytes name says) told
+    (λ bytes b. begins-form bytes line name says b short (subst (λ x. IsLineOf x name says) same of)) begins
+
+pub read-asks : (told : Option (List ℕ)) (name : ShardName) (says : List ℕ) (start : Start) → StartsAs says start → IfSome told (λ bytes. HasForm bytes name says) → IfSome told (λ bytes. Asks bytes name start)
+read-asks told name says start starts form =
+    told_then (λ bytes. HasForm bytes name says) (λ bytes. Asks bytes name start) told (λ bytes f. record { text = says; form = f; says = starts }) form
+
+pub read-refused : (told : Option (List ℕ)) (name : ShardName) (says : List ℕ) (at : ℕ) → IsRefusedAt says at → IfSome told (λ bytes. HasForm bytes name says) →
+    IfSome told (λ bytes. (n : ShardName) × (text : List ℕ) × HasForm bytes n text × IsRefusedAt text at)
+read-refused told name says at refused form =
+    told_then (λ bytes. HasForm bytes name says) (λ bytes. (n : ShardName) × (text : List ℕ) × HasForm bytes n text × IsRefusedAt text at) told (λ bytes f. (name, says, f, refused)) form
+
+pub read-long : (told : Option (List ℕ)) → IfSome told (λ bytes. HasLongLine bytes 1048576) → IfSome told (λ bytes. (name : ShardName) (text : List ℕ) → HasForm bytes name text → ⊥)
+read-long told long = told_then (λ bytes. HasLongLine bytes 1048576) (λ bytes. (name : ShardName) (text : List ℕ) → HasForm bytes name text → ⊥) told long-no-form long

@@ -1,19 +1,20 @@
 -- The frames of one entry more, and what was written of them.
-use Rattle.std.proofs.Common.{◌≡◌, ◌≢◌, ℕ, suc, ◌+◌, ◌<◌, length, take, drop, get_or, List, [], ◌∷◌, ◌++◌, Option, Some, None, Ok, Err, refl, sym, ap, subst, ◌∙◌, append_assoc, append-nil}
+use Rattle.std.proofs.Common.{◌≡◌, ◌≢◌, ℕ, suc, ◌+◌, ◌<◌, length, take, drop, get_or, Bool, true, false, not, if◌then◌else◌, List, [], ◌∷◌, ◌++◌, Option, Some, None, Ok, Err, refl, sym, ap, subst, ◌∙◌, append_assoc, append-nil}
 use Rattle.std.proofs.lemmas.List.{take_more, take-append-drop}
+use Rattle.std.proofs.lemmas.List.Elements.{filter-append}
 use Rattle.std.proofs.Math.Seq.{drop-cons}
 use Rattle.std.specs.Option.{option_map, option_and_then}
 use Rattle.vs_base.specs.declared.ShardName.{ShardName}
 use Rattle.vs_gtid.specs.declared.Entry.{Entry}
-use Rattle.vs_gtid.specs.Positions.{Position, IsCanonical}
+use Rattle.vs_gtid.specs.Positions.{Position, has, IsCanonical}
 use Rattle.vs_gtid.specs.Joins.{added}
 use Rattle.vs_outside.specs.Told.{IsPrefixOf, Writes}
-use Rattle.vs_outside.proofs.ToldLemmas.{Writes-then, IsPrefixOf-refl, IsPrefixOf-behind}
+use Rattle.vs_outside.proofs.ToldLemmas.{Writes-none, Writes-then, Writes-weaken, IsPrefixOf-refl, IsPrefixOf-behind}
 use Rattle.vs_model.specs.Frames.{Frame}
 use Rattle.vs_command.specs.declared.sending.SendEnd.{SendEnd}
 use Rattle.vs_command.specs.declared.sending.SendEnd.TheVariants.{Memory, LinkFault, PositionTooLarge}
 use Rattle.vs_command.specs.Spelling.{frame_bytes, frames_bytes}
-use Rattle.vs_command.specs.Sending.{AreSent, AreSpelled, IsCanonicalAlong, IsSent, next_frame, position_after, entry_frames}
+use Rattle.vs_command.specs.Sending.{AreSent, AreSpelled, IsCanonicalAlong, IsNextTooLarge, IsSent, lacking, next_frame, position_after, entry_frames}
 
 -- the bytes of the first frame, and of the others
 record IsParted (f : Frame) (fs : List Frame) (bytes : List ℕ) : Type 0 where
@@ -70,12 +71,16 @@ Writes-frame s p q xs e before between now at first second =
     let next : IsSent s (position_after p xs) e (Ok tt) w = subst (λ r. IsSent s r e (Ok tt) w) at sent in
     (AreSpelled-more s p xs e v w wrote.0 next.0, IsCanonicalAlong-more p xs e wrote.1 next.1)) first second
 
+-- what came of an entry that was not begun
+abbrev IsUnsent : Position → List Entry → SendEnd → List ℕ → Type 0
+IsUnsent p rest end w = (w ≡ []) × (end ≡ PositionTooLarge → IsNextTooLarge p rest)
+
 -- no frame was written behind those of the first entries
 cut_before : (s : ShardName) (p : Position) (xs rest : List Entry) (end : SendEnd) (before between now : Option (List ℕ)) →
-    Writes before between (WroteFirst s p xs) → Writes between now (λ w. w ≡ []) → (end ≢ LinkFault) →
+    Writes before between (WroteFirst s p xs) → Writes between now (IsUnsent (position_after p xs) rest end) → (end ≢ LinkFault) →
     Writes before now (λ w. AreSent s p (xs ++ rest) (Err end) w)
 cut_before s p xs rest end before between now first second other =
-    Writes-then (WroteFirst s p xs) (λ w. w ≡ []) (λ w. AreSent s p (xs ++ rest) (Err end) w) before between now
+    Writes-then (WroteFirst s p xs) (IsUnsent (position_after p xs) rest end) (λ w. AreSent s p (xs ++ rest) (Err end) w) before between now
     (λ v w wrote none. record {
       sent = xs;
       rest = rest;
@@ -83,9 +88,10 @@ cut_before s p xs rest end before between now first second other =
       bytes = v;
       spelled = wrote.0;
       canonical = wrote.1;
-      prefix = subst (λ l. IsPrefixOf l v) (sym (ap (λ l. v ++ l) none ∙ append-nil v)) (IsPrefixOf-refl v);
-      whole = λ _. ap (λ l. v ++ l) none ∙ append-nil v;
+      prefix = subst (λ l. IsPrefixOf l v) (sym (ap (λ l. v ++ l) none.0 ∙ append-nil v)) (IsPrefixOf-refl v);
+      whole = λ _. ap (λ l. v ++ l) none.0 ∙ append-nil v;
       all = tt;
+      large = λ h. none.1 (let p : end ≡ PositionTooLarge = cc in p);
     }) first second
 
 -- a beginning of a frame was written behind those of the first entries
@@ -105,6 +111,7 @@ cut_within s p q xs rest e before between now at first second =
       prefix = IsPrefixOf-behind v w cut.0 cut.2;
       whole = λ other. absurd (other refl);
       all = tt;
+      large = λ h. absurd (cc);
     }) first second
 
 -- what was written where the next entry was not sent
@@ -112,8 +119,28 @@ pub Writes-cut_entry : (s : ShardName) (p q : Position) (xs rest : List Entry) (
     q ≡ position_after p xs → Writes before between (WroteFirst s p xs) → Writes between now (λ w. IsSent s q e (Err end) w) →
     Writes before now (λ w. AreSent s p (xs ++ e ∷ rest) (Err end) w)
 Writes-cut_entry s p q xs rest e LinkFault before between now at first second = cut_within s p q xs rest e before between now at first second
-Writes-cut_entry s p q xs rest e Memory before between now at first second = cut_before s p xs (e ∷ rest) Memory before between now first second (λ h. cc)
-Writes-cut_entry s p q xs rest e PositionTooLarge before between now at first second = cut_before s p xs (e ∷ rest) PositionTooLarge before between now first second (λ h. cc)
+Writes-cut_entry s p q xs rest e Memory before between now at first second =
+    cut_before s p xs (e ∷ rest) Memory before between now first
+    (Writes-weaken (λ w. w ≡ []) (IsUnsent (position_after p xs) (e ∷ rest) Memory) between now (λ w none. (none, λ h. absurd (cc))) second) (λ h. cc)
+Writes-cut_entry s p q xs rest e PositionTooLarge before between now at first second =
+    cut_before s p xs (e ∷ rest) PositionTooLarge before between now first
+    (Writes-weaken (IsSent s q e (Err PositionTooLarge)) (IsUnsent (position_after p xs) (e ∷ rest) PositionTooLarge) between now
+    (λ w none. (none.0, λ h. subst (λ r. 1024 < length (added r e.gtid)) at none.1)) second) (λ h. cc)
+
+-- nothing was written
+pub Writes-unsent : (s : ShardName) (p : Position) (entries : List Entry) (told : Option (List ℕ)) → Writes told told (λ w. AreSent s p entries (Err Memory) w)
+Writes-unsent s p entries told = Writes-none (λ w. AreSent s p entries (Err Memory) w) told (record {
+  sent = [];
+  rest = entries;
+  are = refl;
+  bytes = [];
+  spelled = refl;
+  canonical = tt;
+  prefix = IsPrefixOf-refl [];
+  whole = λ _. refl;
+  all = tt;
+  large = λ h. absurd (cc);
+})
 
 -- the entries are the first ones, the next one, and the rest
 pub split_at : (entries : List Entry) (i : ℕ) (e : Entry) → i < length entries → e ≡ get_or entries i e → entries ≡ take i entries ++ e ∷ drop (suc i) entries
@@ -121,3 +148,33 @@ split_at entries i e inside is = sym (take-append-drop i entries) ∙ ap (λ l. 
 
 pub take_next : (entries : List Entry) (i : ℕ) (e : Entry) → i < length entries → e ≡ get_or entries i e → take (i + 1) entries ≡ take i entries ++ e ∷ []
 take_next entries i e inside is = take_more entries i e inside ∙ ap (λ x. take i entries ++ x ∷ []) (sym is)
+
+-- all entries were sent
+pub Writes-sent : (s : ShardName) (p : Position) (xs entries : List Entry) (before now : Option (List ℕ)) → xs ≡ entries →
+    Writes before now (WroteFirst s p xs) → Writes before now (λ w. AreSent s p entries (Ok tt) w)
+Writes-sent s p xs entries before now are wrote =
+    Writes-weaken (WroteFirst s p xs) (λ w. AreSent s p entries (Ok tt) w) before now
+    (λ w first. record {
+      sent = xs;
+      rest = [];
+      are = sym are ∙ sym (append-nil xs);
+      bytes = w;
+      spelled = first.0;
+      canonical = first.1;
+      prefix = IsPrefixOf-refl w;
+      whole = λ _. refl;
+      all = refl;
+      large = λ h. absurd (cc);
+    }) wrote
+
+-- an entry of the position is none that it lacks, and another is one
+pub lacking-in : (p : Position) (xs : List Entry) (e : Entry) → has p e.gtid ≡ true → lacking p (xs ++ e ∷ []) ≡ lacking p xs
+lacking-in p xs e h =
+    filter-append (λ x. not (has p x.gtid)) xs (e ∷ []) ∙ ap (λ b. lacking p xs ++ (if not b then e ∷ [] else [])) h ∙ append-nil (lacking p xs)
+
+pub lacking-out : (p : Position) (xs : List Entry) (e : Entry) → has p e.gtid ≡ false → lacking p (xs ++ e ∷ []) ≡ lacking p xs ++ e ∷ []
+lacking-out p xs e h = filter-append (λ x. not (has p x.gtid)) xs (e ∷ []) ∙ ap (λ b. lacking p xs ++ (if not b then e ∷ [] else [])) h
+
+pub lacking-split : (p : Position) (xs rest : List Entry) (e : Entry) → has p e.gtid ≡ false → lacking p (xs ++ e ∷ rest) ≡ lacking p xs ++ e ∷ lacking p rest
+lacking-split p xs rest e h =
+    filter-append (λ x. not (has p x.gtid)) xs (e ∷ rest) ∙ ap (λ b. lacking p xs ++ (if not b then e ∷ lacking p rest else lacking p rest)) h

@@ -4,11 +4,11 @@ use Rattle.std.specs.List.{AllByRecursion}
 use Rattle.vs_base.specs.declared.ShardName.{ShardName}
 use Rattle.vs_gtid.specs.declared.Entry.{Entry}
 use Rattle.vs_gtid.specs.Positions.{Position}
-use Rattle.vs_gtid.specs.Logs.{Log, HaveDistinctGtids, IsStatement}
+use Rattle.vs_gtid.specs.Logs.{Log, HaveDistinctGtids}
 use Rattle.vs_log.specs.Table.{Rules}
 use Rattle.vs_log.specs.Laws.{HasNewGtids}
 use Rattle.vs_log.specs.Meaning.{log_meant}
-use Rattle.vs_entries.specs.Rules.{rules_of}
+use Rattle.vs_entries.specs.Rules.{rules_of, IsBuilt}
 use Rattle.vs_model.specs.Logs.{Cluster, LogsAreDistinct, due, stop, IsPositionAfter}
 use Rattle.vs_model.specs.Vectors.{Vector}
 use Rattle.vs_model.specs.Frames.{Frame}
@@ -36,11 +36,11 @@ LawOfSteps = (cluster : Cluster) (rules : Filter) (v0 : Vector) (fs : List Frame
 abbrev pub LawOfNewGtids : Type 0
 LawOfNewGtids = (rules : Rules) (bytes : List ℕ) → HasNewGtids (log_meant rules bytes)
 
-abbrev pub AreStatements : List Entry → Type 0
-AreStatements es = AllByRecursion (λ (e : Entry). IsStatement e.work) es
+abbrev pub AreBuilt : List Entry → Type 0
+AreBuilt es = AllByRecursion (λ (e : Entry). IsBuilt e.work) es
 
-abbrev pub LawOfStatements : Type 0
-LawOfStatements = (keyspace bytes : List ℕ) → AreStatements (log_meant (rules_of keyspace) bytes).entries
+abbrev pub LawOfBuilt : Type 0
+LawOfBuilt = (keyspace bytes : List ℕ) → AreBuilt (log_meant (rules_of keyspace) bytes).entries
 
 pub record Laws : Type 0 where
   pub transactions : LawOfTransactions
@@ -48,4 +48,4 @@ pub record Laws : Type 0 where
   pub stop : LawOfStop
   pub steps : LawOfSteps
   pub new_gtids : LawOfNewGtids
-  pub statements : LawOfStatements
+  pub built : LawOfBuilt

@@ -1,8 +1,9 @@
 -- The frames of a shard's entries, from a position on, and what was written of them.
-use Rattle.std.specs.Prelude.{◌≡◌, ◌≢◌, ◌<◌, ℕ, length, List, [], ◌∷◌, ◌++◌, Some, Result, Ok, Err, OnOk}
+use Rattle.std.specs.Prelude.{◌≡◌, ◌≢◌, ◌<◌, ℕ, length, not, List, [], ◌∷◌, ◌++◌, Some, Result, Ok, Err, OnOk}
+use Rattle.std.specs.List.{filter}
 use Rattle.vs_base.specs.declared.ShardName.{ShardName}
 use Rattle.vs_gtid.specs.declared.Entry.{Entry}
-use Rattle.vs_gtid.specs.Positions.{Position, IsCanonical}
+use Rattle.vs_gtid.specs.Positions.{Position, has, IsCanonical}
 use Rattle.vs_gtid.specs.Joins.{added}
 use Rattle.vs_outside.specs.Told.{IsPrefixOf}
 use Rattle.vs_model.specs.Vectors.{Vector}
@@ -16,6 +17,10 @@ use Rattle.vs_command.specs.Spelling.{frame_bytes, frames_bytes}
 -- the vector of the one shard
 abbrev pub vector_at : ShardName → Position → Vector
 vector_at s p = (s, Streaming p) ∷ []
+
+-- the entries that a position lacks
+abbrev pub lacking : Position → List Entry → List Entry
+lacking p entries = filter (λ e. not (has p e.gtid)) entries
 
 -- the position with the GTIDs of the entries
 abbrev pub position_after : Position → List Entry → Position
@@ -45,7 +50,12 @@ abbrev pub IsSent : ShardName → Position → Entry → Result (Unit {0}) SendE
 IsSent s p e (Ok x) w = (frame_bytes (next_frame s p e) ≡ Some w) × IsCanonical (added p e.gtid)
 IsSent s p e (Err LinkFault) w = (bytes : List ℕ) × (frame_bytes (next_frame s p e) ≡ Some bytes) × IsPrefixOf w bytes × IsCanonical (added p e.gtid)
 IsSent s p e (Err Memory) w = w ≡ []
-IsSent s p e (Err PositionTooLarge) w = w ≡ []
+IsSent s p e (Err PositionTooLarge) w = (w ≡ []) × (1024 < length (added p e.gtid))
+
+-- the position with the next GTID has over 1,024 intervals
+abbrev pub IsNextTooLarge : Position → List Entry → Type 0
+IsNextTooLarge p [] = ⊥
+IsNextTooLarge p (e ∷ rest) = 1024 < length (added p e.gtid)
 
 -- What was written as the frames of entries were to be sent: those of the first entries, and where the link failed a beginning of them.
 pub record AreSent (s : ShardName) (p : Position) (entries : List Entry) (result : Result (Unit {0}) SendEnd) (w : List ℕ) : Type 0 where
@@ -58,11 +68,4 @@ pub record AreSent (s : ShardName) (p : Position) (entries : List Entry) (result
   pub prefix : IsPrefixOf w bytes
   pub whole : result ≢ Err LinkFault → w ≡ bytes
   pub all : OnOk result (rest ≡ [])
-
--- behind some of the entries, the position with the next GTID has over 1,024 intervals
-pub record IsTooLargeBehind (p : Position) (entries : List Entry) : Type 0 where
-  pub sent : List Entry
-  pub next : Entry
-  pub rest : List Entry
-  pub are : entries ≡ sent ++ next ∷ rest
-  pub many : 1024 < length (added (position_after p sent) next.gtid)
+  pub large : result ≡ Err PositionTooLarge → IsNextTooLarge (position_after p sent) rest

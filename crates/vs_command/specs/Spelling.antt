@@ -59,29 +59,36 @@ vector_bytes v = flat_map (λ slot. message_field 1 (shard_gtid_bytes slot.0 slo
 
 -- what an event of a shard's frame says
 pub data Said : Type 0 where
+  -- a transaction begins
+  Begins : Said
   -- the vector after the frame
   VectorAfter : (v : Vector) → Said
   -- a statement that changes the schema
   Statement : (text : List ℕ) → Said
   -- another statement
   OtherStatement : Said
+  -- the transaction ends
+  Commits : Said
+
+-- an event that says no more than its kind, at the time of its entry; then the shard
+abbrev pub plain_bytes : ShardName → ℕ → ℕ → List ℕ
+plain_bytes s time kind = optional_number 1 kind ++ optional_number 2 time ++ optional_text 22 s.keyspace ++ optional_text 23 s.shard
 
 -- an event: its kind, the time of its entry, and what it says; then the shard
 abbrev pub event_bytes : ShardName → ℕ → Said → List ℕ
 event_bytes s time (VectorAfter v) = optional_number 1 15 ++ optional_number 2 time ++ message_field 7 (vector_bytes v) ++ optional_text 22 s.keyspace ++ optional_text 23 s.shard
 event_bytes s time (Statement text) = optional_number 1 5 ++ optional_number 2 time ++ optional_text 4 text ++ optional_text 22 s.keyspace ++ optional_text 23 s.shard
-event_bytes s time OtherStatement = optional_number 1 11 ++ optional_number 2 time ++ optional_text 22 s.keyspace ++ optional_text 23 s.shard
+event_bytes s time Begins = plain_bytes s time 2
+event_bytes s time Commits = plain_bytes s time 3
+event_bytes s time OtherStatement = plain_bytes s time 11
 
--- the event that ends a transaction's frame, of the kinds that are built
-abbrev pub closing_of : Work → Option Said
-closing_of (Ddl text) = Some (Statement text)
-closing_of Other = Some OtherStatement
-closing_of (Rows changes) = None
-closing_of (Journal j) = None
-
--- the events of a transaction: the vector after it, and the statement
+-- the events of an entry's frame, of the kinds that are built: the vector after it comes before the event that ends it
 abbrev pub events_of : Work → Vector → Option (List Said)
-events_of work v = option_map (λ closing. VectorAfter v ∷ (closing ∷ [])) (closing_of work)
+events_of (Rows []) v = Some (Begins ∷ (VectorAfter v ∷ (Commits ∷ [])))
+events_of (Rows (c ∷ changes)) v = None
+events_of (Ddl text) v = Some (VectorAfter v ∷ (Statement text ∷ []))
+events_of Other v = Some (VectorAfter v ∷ (OtherStatement ∷ []))
+events_of (Journal j) v = None
 
 -- the message of some events
 abbrev pub response_bytes : ShardName → ℕ → List Said → List ℕ

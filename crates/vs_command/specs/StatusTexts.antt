@@ -53,6 +53,7 @@ why_text why.TheVariants.NotBuilt = codes "not built"
 -- what is wrong with a request: the fault's name, and its numbers
 abbrev pub fault_text : RequestFault → List ℕ
 fault_text (fault.NotBuilt index) = codes "NotBuilt " ++ decimal index
+fault_text (fault.BadPosition index at) = codes "BadPosition " ++ (decimal index ++ (codes " " ++ decimal at))
 
 -- The line that tells how a session ended, without its line feed. Of one that is done it is empty.
 unfoldable pub status_line : Status → List ℕ

@@ -1,19 +1,22 @@
-ghost use Rattle.std.specs.Prelude.{◌≡◌, ◌≤◌, ◌<◌, ◌^◌, ◌++◌, IfOk, OnOk, Some};
+ghost use Rattle.std.specs.Prelude.{◌≡◌, ◌≤◌, ◌<◌, ◌^◌, ◌++◌, [], IfOk, OnOk, Some};
 ghost use Rattle.std.specs.Option.{option_map};
-ghost use Rattle.vs_gtid.specs.Logs.{IsStatement};
+ghost use Rattle.vs_entries.specs.Rules.{IsBuilt};
 ghost use Rattle.vs_model.specs.Frames.Frame.{Tx};
 ghost use Rattle.vs_command.specs.Sending.{vector_at};
 ghost use Rattle.vs_command.specs.Spelling.{
-  OtherStatement,
+  Begins,
+  Commits,
   Statement,
   VectorAfter,
-  closing_of,
   event_bytes,
+  events_of,
   frame_bytes,
   framed,
   message_field,
   optional_number,
   optional_text,
+  plain_bytes,
+  response_bytes,
   vector_bytes,
 };
 
@@ -23,6 +26,10 @@ use vs_gtid::{Entry, GtidSet, Work};
 use vs_wire::{put_bytes, put_number};
 
 /// The kinds of events, as `binlogdata.proto` numbers them.
+const BEGIN_EVENT: u64 = 2;
+
+const COMMIT_EVENT: u64 = 3;
+
 const DDL_EVENT: u64 = 5;
 
 const OTHER_EVENT: u64 = 11;
@@ -130,27 +137,72 @@ fn statement_event(
     Ok(event)
 }
 
-/// The event of another statement.
-fn other_event(alloc: Global, name: &ShardName, time: u32) -> Result<Vec<u8>, OutOfMemory>
-    ensures { IfOk result (λ v. v.items ≡ event_bytes name.now time OtherStatement) }
+/// An event that says no more than its kind.
+fn plain_event(
+    alloc: Global,
+    name: &ShardName,
+    time: u32,
+    kind: u64,
+) -> Result<Vec<u8>, OutOfMemory>
+    ensures { IfOk result (λ v. v.items ≡ plain_bytes name.now time kind) }
 {
     let mut event = Vec::new(alloc);
-    put_optional_number(alloc, &mut event, 1, OTHER_EVENT)?;
+    put_optional_number(alloc, &mut event, 1, kind)?;
     put_optional_number(alloc, &mut event, 2, time as u64)?;
     put_optional_text(alloc, &mut event, 22, name.keyspace.as_bytes())?;
     put_optional_text(alloc, &mut event, 23, name.shard.as_bytes())?;
     Ok(event)
 }
 
-/// The event that ends the frame of an entry.
-fn closing_event(alloc: Global, name: &ShardName, entry: &Entry) -> Result<Vec<u8>, OutOfMemory>
-    requires { IsStatement entry.now.work }
-    ensures { IfOk result (λ v. option_map (event_bytes name.now entry.now.time) (closing_of entry.now.work) ≡ Some v.items) }
+/// The message of a transaction that changes no row, around the event with the vector.
+fn transaction_message(
+    alloc: Global,
+    name: &ShardName,
+    time: u32,
+    vector: &[u8],
+) -> Result<Vec<u8>, OutOfMemory>
+    ensures { IfOk result (λ v. v.items ≡ message_field 1 (event_bytes name.now time Begins) ++ (message_field 1 vector.now ++ (message_field 1 (event_bytes name.now time Commits) ++ []))) }
 {
+    let begin = plain_event(alloc, name, time, BEGIN_EVENT)?;
+    let commit = plain_event(alloc, name, time, COMMIT_EVENT)?;
+    let mut message = Vec::new(alloc);
+    put_message(alloc, &mut message, 1, &begin)?;
+    put_message(alloc, &mut message, 1, vector)?;
+    put_message(alloc, &mut message, 1, &commit)?;
+    Ok(message)
+}
+
+/// The message of two events.
+fn joined_message(alloc: Global, vector: &[u8], closing: &[u8]) -> Result<Vec<u8>, OutOfMemory>
+    ensures { IfOk result (λ v. v.items ≡ message_field 1 vector.now ++ (message_field 1 closing.now ++ [])) }
+{
+    let mut message = Vec::new(alloc);
+    put_message(alloc, &mut message, 1, vector)?;
+    put_message(alloc, &mut message, 1, closing)?;
+    Ok(message)
+}
+
+/// The message of an entry's events, with the vector after it.
+fn entry_message(
+    alloc: Global,
+    name: &ShardName,
+    entry: &Entry,
+    position: &GtidSet,
+) -> Result<Vec<u8>, OutOfMemory>
+    requires { IsBuilt entry.now.work }
+    ensures { IfOk result (λ v. option_map (response_bytes name.now entry.now.time) (events_of entry.now.work (vector_at name.now position.now)) ≡ Some v.items) }
+{
+    let vector = vector_event(alloc, name, entry.time, position)?;
     match &entry.work {
-        Work::Ddl(text) => statement_event(alloc, name, entry.time, text.as_bytes()),
-        Work::Other => other_event(alloc, name, entry.time),
-        Work::Rows(_) => unreachable!(),
+        Work::Rows(_) => transaction_message(alloc, name, entry.time, &vector),
+        Work::Ddl(text) => {
+            let statement = statement_event(alloc, name, entry.time, text.as_bytes())?;
+            joined_message(alloc, &vector, &statement)
+        }
+        Work::Other => {
+            let other = plain_event(alloc, name, entry.time, OTHER_EVENT)?;
+            joined_message(alloc, &vector, &other)
+        }
         Work::Journal(_) => unreachable!(),
     }
 }
@@ -167,20 +219,16 @@ fn framed_message(alloc: Global, message: &[u8]) -> Result<Vec<u8>, OutOfMemory>
     Ok(frame)
 }
 
-/// The frame of a statement, with the vector after it.
-pub fn statement_frame(
+/// The frame of an entry, with the vector after it.
+pub fn entry_frame(
     alloc: Global,
     name: &ShardName,
     entry: &Entry,
     position: &GtidSet,
 ) -> Result<Vec<u8>, OutOfMemory>
-    requires { IsStatement entry.now.work }
+    requires { IsBuilt entry.now.work }
     ensures { IfOk result (λ v. frame_bytes (Tx name.now entry.now (vector_at name.now position.now)) ≡ Some v.items) }
 {
-    let vector = vector_event(alloc, name, entry.time, position)?;
-    let closing = closing_event(alloc, name, entry)?;
-    let mut message = Vec::new(alloc);
-    put_message(alloc, &mut message, 1, &vector)?;
-    put_message(alloc, &mut message, 1, &closing)?;
+    let message = entry_message(alloc, name, entry, position)?;
     framed_message(alloc, &message)
 }

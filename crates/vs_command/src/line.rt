@@ -1,6 +1,9 @@
 ghost use Rattle.std.specs.Prelude.{
   ◌≡◌,
   ◌≤◌,
+  ◌<◌,
+  ℕ,
+  List as Items,
   Err,
   IfOk,
   IfSome,
@@ -8,6 +11,7 @@ ghost use Rattle.std.specs.Prelude.{
   MatchOption,
   MatchResult,
   OnErr,
+  length,
   nat_eq,
 };
 ghost use Rattle.std.specs.Cmp.Lexicographic.{pointwise};
@@ -16,15 +20,20 @@ ghost use Rattle.vs_outside.specs.Counts.{Rose};
 ghost use Rattle.vs_command.specs.Line.{
   Asks,
   BeginsWithLine,
+  HasForm,
   HasLongLine,
   IsAbsent,
   IsLineOf,
+  IsRefusedAt,
   IsSplit,
   IsTaken,
+  StartsAs,
 };
 
+use crate::start::Start;
 use std::alloc::Global;
 use vs_base::{OutOfMemory, ShardName, Text};
+use vs_gtid::{GtidRefusal, GtidSet};
 use vs_outside::{Failed, Source, names_keyspace, names_shard};
 
 /// Why no request was read.
@@ -35,10 +44,19 @@ pub enum LineEnd {
     InputFault,
     /// The input does not begin with a line that this release takes.
     NotBuilt,
+    /// The position is no set of GTIDs, from this byte of its text on.
+    BadPosition { at: usize },
 }
 
-/// How many bytes a line may have before it is given up; the longest that asks has 138.
-const LONGEST_LINE: usize = 256;
+/// What a line asks for.
+#[derive(Debug, Drop)]
+pub struct Asked {
+    pub name: ShardName,
+    pub start: Start,
+}
+
+/// How many bytes a line may have before it is given up.
+const LONGEST_LINE: usize = 1_048_576;
 
 /// Takes the next byte, or none where nothing is left.
 fn read_byte<I: Source>(input: &mut I) -> Result<Option<u8>, Failed>
@@ -59,6 +77,8 @@ fn read_line<I: Source>(alloc: Global, input: &mut I) -> Result<Vec<u8>, LineEnd
     ensures line { IfOk result (λ v. IfSome (I.left input.old) (λ bytes. BeginsWithLine bytes v.items)) }
     ensures later { I.faults input.old ≤ I.faults input.new }
     ensures failed { result ≡ Err LineEnd.InputFault → Rose (I.faults input.old) (I.faults input.new) }
+    ensures short { IfOk result (λ v. length v.items < LONGEST_LINE) }
+    ensures position { (at : ℕ) → result ≡ Err (LineEnd.BadPosition at) → ⊥ }
     ensures long { result ≡ Err LineEnd.NotBuilt → IfSome (I.left input.old) (λ bytes. HasLongLine bytes LONGEST_LINE) }
 {
     let mut line = Vec::new(alloc);
@@ -96,17 +116,17 @@ fn is_same(a: &[u8], b: &[u8]) -> bool
     a == b
 }
 
-/// The shard that a line asks for, where the line is one that asks.
-fn asked_name(alloc: Global, line: &[u8]) -> Result<Option<ShardName>, OutOfMemory>
-    ensures { IfOk result (λ o. MatchOption o ((name : ShardName) → IsLineOf line.now name → ⊥) (IsLineOf line.now)) }
+/// The shard of a line and the text behind it, where the line has that form.
+fn named_by(alloc: Global, line: &[u8]) -> Result<Option<(ShardName, &[u8])>, OutOfMemory>
+    ensures { IfOk result (λ o. MatchOption o ((name : ShardName) (text : Items ℕ) → IsLineOf line.now name text → ⊥) (λ parts. IsLineOf line.now parts.0 parts.1.now)) }
 {
     let Some((keyspace, rest)) = split_at_byte(line, b'/') else {
         return Ok(None);
     };
-    let Some((shard, position)) = split_at_byte(rest, b' ') else {
+    let Some((shard, text)) = split_at_byte(rest, b' ') else {
         return Ok(None);
     };
-    if !is_same(position, b"MySQL56/") {
+    if text.is_empty() {
         return Ok(None);
     }
     if !names_keyspace(keyspace) {
@@ -117,24 +137,52 @@ fn asked_name(alloc: Global, line: &[u8]) -> Result<Option<ShardName>, OutOfMemo
     }
     let keyspace = Text::from_bytes(alloc, keyspace)?;
     let shard = Text::from_bytes(alloc, shard)?;
-    Ok(ShardName::new(keyspace, shard))
+    match ShardName::new(keyspace, shard) {
+        Some(name) => Ok(Some((name, text))),
+        None => Ok(None),
+    }
 }
 
-/// Reads the line at the front of the input, and the shard that it asks for. What stands behind the
-/// line is not used.
-pub fn read_request<I: Source>(alloc: Global, input: &mut I) -> Result<ShardName, LineEnd>
-    ensures asks { IfOk result (λ name. IfSome (I.left input.old) (λ bytes. Asks bytes name)) }
+/// The start that a text says: a set of GTIDs, or `current`.
+fn read_start(alloc: Global, text: &[u8]) -> Result<Start, LineEnd>
+    ensures says { IfOk result (λ start. StartsAs text.now start) }
+    ensures refused { (at : ℕ) → result ≡ Err (LineEnd.BadPosition at) → IsRefusedAt text.now at }
+    ensures kind { (result ≡ Err LineEnd.InputFault → ⊥) × (result ≡ Err LineEnd.NotBuilt → ⊥) }
+{
+    if is_same(text, b"current") {
+        return Ok(Start::Current);
+    }
+    match GtidSet::parse(alloc, text) {
+        Ok(set) => Ok(Start::At(set)),
+        Err(GtidRefusal::Memory) => Err(LineEnd::Memory),
+        Err(GtidRefusal::BadText { at }) => Err(LineEnd::BadPosition { at }),
+        Err(GtidRefusal::ZeroNumber { at }) => Err(LineEnd::BadPosition { at }),
+        Err(GtidRefusal::EmptyInterval { at }) => Err(LineEnd::BadPosition { at }),
+        Err(GtidRefusal::BadBlock { at }) => Err(LineEnd::BadPosition { at }),
+        Err(GtidRefusal::TooManyIntervals) => Err(LineEnd::BadPosition { at: text.len() }),
+    }
+}
+
+/// Reads the line at the front of the input, and what it asks for. What stands behind the line is
+/// not used.
+pub fn read_request<I: Source>(alloc: Global, input: &mut I) -> Result<Asked, LineEnd>
+    ensures asks { IfOk result (λ asked. IfSome (I.left input.old) (λ bytes. Asks bytes asked.name asked.start)) }
     ensures later { I.faults input.old ≤ I.faults input.new }
     ensures failed { result ≡ Err LineEnd.InputFault → Rose (I.faults input.old) (I.faults input.new) }
-    ensures not_built { result ≡ Err LineEnd.NotBuilt → IfSome (I.left input.old) (λ bytes. (name : ShardName) → Asks bytes name → ⊥) }
+    ensures not_built { result ≡ Err LineEnd.NotBuilt → IfSome (I.left input.old) (λ bytes. (name : ShardName) (text : Items ℕ) → HasForm bytes name text → ⊥) }
+    ensures position { (at : ℕ) → result ≡ Err (LineEnd.BadPosition at) → IfSome (I.left input.old) (λ bytes. (name : ShardName) × (text : Items ℕ) × HasForm bytes name text × IsRefusedAt text at) }
 {
     let line = match read_line(alloc, input) {
         Ok(line) => line,
         Err(end) => return Err(end),
     };
-    match asked_name(alloc, &line) {
-        Ok(Some(name)) => Ok(name),
-        Ok(None) => Err(LineEnd::NotBuilt),
-        Err(_) => Err(LineEnd::Memory),
+    let (name, text) = match named_by(alloc, &line) {
+        Ok(Some(parts)) => parts,
+        Ok(None) => return Err(LineEnd::NotBuilt),
+        Err(_) => return Err(LineEnd::Memory),
+    };
+    match read_start(alloc, text) {
+        Ok(start) => Ok(Asked { name, start }),
+        Err(end) => Err(end),
     }
 }

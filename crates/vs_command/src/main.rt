@@ -7,6 +7,7 @@ mod host;
 mod line;
 mod run;
 mod sending;
+mod start;
 mod status;
 mod streaming;
 #[cfg(test)]

@@ -3,19 +3,18 @@ ghost use Rattle.vs_base.specs.declared.ShardName.{ShardName};
 ghost use Rattle.vs_outside.specs.Clusters.{find_shard};
 ghost use Rattle.vs_outside.specs.Counts.{Rose};
 ghost use Rattle.vs_outside.specs.Told.{Writes};
-ghost use Rattle.vs_command.specs.Line.{Asks};
-ghost use Rattle.vs_command.specs.Streaming.{Answers, Headline, IsOfStream};
+ghost use Rattle.vs_command.specs.Line.{HasForm, IsRefusedAt};
+ghost use Rattle.vs_command.specs.Streaming.{Headline, IsOfStream, Outcome};
 ghost use Rattle.vs_command.specs.Words.{AreStreamWords};
 ghost use Rattle.vs_command.specs.Laws.{Laws};
 
 use crate::fetch::{FetchEnd, fetch_log};
-use crate::line::{LineEnd, read_request};
+use crate::line::{Asked, LineEnd, read_request};
 use crate::status::{RequestFault, Status};
 use crate::streaming::stream_log;
 use std::alloc::Global;
 use std::sync::Wait;
-use vs_base::ShardName;
-use vs_entries::law_statements;
+use vs_entries::law_built;
 use vs_log::law_distinct;
 use vs_model::{law_due, law_frames, law_steps};
 use vs_outside::{Clock, Sink, Source, Tablets};
@@ -44,26 +43,27 @@ fn laws()
     law_frames();
     law_due();
     law_distinct();
-    law_statements();
+    law_built();
 }
 
-/// Streams a shard of the tablets, from the empty position to the end of its log.
+/// Streams a shard of the tablets, from a start to the end of its log.
 fn stream_shard<R: Wait, O: Sink, T: Tablets>(
     rt: &R,
     alloc: Global,
-    name: ShardName,
+    asked: Asked,
     output: &mut O,
     tablets: &mut T,
 ) -> Status
-    ensures answers { IfSome (T.cluster tablets.old) (λ c. Writes (O.sent output.old) (O.sent output.new) (Answers c name result)) }
+    ensures answers { IfSome (T.cluster tablets.old) (λ c. Writes (O.sent output.old) (O.sent output.new) (Outcome c asked.name asked.start (Rose (T.waits tablets.old asked.name) (T.waits tablets.new asked.name)) result)) }
     ensures kind { IsOfStream result }
     ensures link { result ≡ Status.LinkFault → Rose (O.faults output.old) (O.faults output.new) }
     ensures feed { (n : ShardName) → result ≡ Status.FeedFault n → Rose (T.faults tablets.old n) (T.faults tablets.new n) }
     ensures opening { (n : ShardName) → result ≡ Status.OpenFault n → Rose (T.open_faults tablets.old n) (T.open_faults tablets.new n) }
 {
     laws();
+    let Asked { name, start } = asked;
     match fetch_log(rt, alloc, tablets, &name) {
-        Ok(Some(log)) => stream_log(alloc, output, name, &log),
+        Ok(Some(fetched)) => stream_log(alloc, output, name, start, &fetched),
         Ok(None) => Status::UnknownShard { name },
         Err(FetchEnd::Memory) => Status::Memory,
         Err(FetchEnd::OpenFault) => Status::OpenFault { name },
@@ -72,7 +72,7 @@ fn stream_shard<R: Wait, O: Sink, T: Tablets>(
 }
 
 /// The program's stream: reads the words `stream FOLDER` and a request line from the input, and
-/// writes a frame for each transaction of the shard to the output.
+/// writes a frame for each transaction of the shard that the position lacks to the output.
 ///
 /// The headline holds where the tablets tell their cluster and the input and the output their bytes.
 pub fn run<R: Wait, I: Source, O: Sink, T: Tablets, C: Clock>(
@@ -84,13 +84,13 @@ pub fn run<R: Wait, I: Source, O: Sink, T: Tablets, C: Clock>(
     tablets: &mut T,
     _clock: &mut C,
 ) -> Status
-    ensures headline { IfSome (T.cluster tablets.old) (λ c. IfSome (I.left input.old) (λ bytes. Writes (O.sent output.old) (O.sent output.new) (Headline c bytes result))) }
+    ensures headline { IfSome (T.cluster tablets.old) (λ c. IfSome (I.left input.old) (λ bytes. Writes (O.sent output.old) (O.sent output.new) (Headline c (λ n. Rose (T.waits tablets.old n) (T.waits tablets.new n)) bytes result))) }
 
     // when each answer comes
     ensures usage { result ≡ Status.Usage → (folder : Items ℕ) → AreStreamWords words.now folder → ⊥ }
     ensures words { ((folder : Items ℕ) → AreStreamWords words.now folder → ⊥) → result ≡ Status.Usage }
-    ensures request { result ≡ Status.Request (RequestFault.NotBuilt 0) → IfSome (I.left input.old) (λ bytes. (name : ShardName) → Asks bytes name → ⊥) }
-    ensures request_index { (index : ℕ) → result ≡ Status.Request (RequestFault.NotBuilt index) → index ≡ 0 }
+    ensures request { (index : ℕ) → result ≡ Status.Request (RequestFault.NotBuilt index) → (index ≡ 0) × IfSome (I.left input.old) (λ bytes. (name : ShardName) (text : Items ℕ) → HasForm bytes name text → ⊥) }
+    ensures position { (index at : ℕ) → result ≡ Status.Request (RequestFault.BadPosition index at) → (index ≡ 0) × IfSome (I.left input.old) (λ bytes. (name : ShardName) × (text : Items ℕ) × HasForm bytes name text × IsRefusedAt text at) }
     ensures link { result ≡ Status.LinkFault → Rose (O.faults output.old) (O.faults output.new) }
     ensures input { result ≡ Status.InputFault → Rose (I.faults input.old) (I.faults input.new) }
     ensures feed { (name : ShardName) → result ≡ Status.FeedFault name → Rose (T.faults tablets.old name) (T.faults tablets.new name) }
@@ -103,9 +103,12 @@ pub fn run<R: Wait, I: Source, O: Sink, T: Tablets, C: Clock>(
         return Status::Memory;
     }
     match read_request(alloc, input) {
-        Ok(name) => stream_shard(rt, alloc, name, output, tablets),
+        Ok(asked) => stream_shard(rt, alloc, asked, output, tablets),
         Err(LineEnd::Memory) => Status::Memory,
         Err(LineEnd::InputFault) => Status::InputFault,
         Err(LineEnd::NotBuilt) => Status::Request(RequestFault::NotBuilt { index: 0 }),
+        Err(LineEnd::BadPosition { at }) => {
+            Status::Request(RequestFault::BadPosition { index: 0, at })
+        }
     }
 }

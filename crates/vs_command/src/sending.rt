@@ -1,11 +1,11 @@
-ghost use Rattle.std.specs.Prelude.{◌≡◌, ◌≤◌, ◌<◌, All, OnOk, Err, length};
+ghost use Rattle.std.specs.Prelude.{◌≡◌, ◌≤◌, All, OnOk, Err};
 ghost use Rattle.vs_gtid.specs.Joins.{added};
-ghost use Rattle.vs_gtid.specs.Logs.{IsStatement};
+ghost use Rattle.vs_entries.specs.Rules.{IsBuilt};
 ghost use Rattle.vs_outside.specs.Counts.{Rose};
 ghost use Rattle.vs_outside.specs.Told.{Writes};
-ghost use Rattle.vs_command.specs.Sending.{AreSent, IsSent, IsTooLargeBehind, position_after};
+ghost use Rattle.vs_command.specs.Sending.{AreSent, IsSent, lacking};
 
-use crate::frame::statement_frame;
+use crate::frame::entry_frame;
 use std::alloc::Global;
 use vs_base::ShardName;
 use vs_gtid::{Entry, GtidRefusal, GtidSet};
@@ -29,12 +29,11 @@ fn send_entry<O: Sink>(
     entry: &Entry,
     position: &mut GtidSet,
 ) -> Result<(), SendEnd>
-    requires { IsStatement entry.now.work }
+    requires { IsBuilt entry.now.work }
     ensures wrote { Writes (O.sent output.old) (O.sent output.new) (λ w. IsSent name.now position.old entry.now result w) }
     ensures position { OnOk result (position.new ≡ added position.old entry.now.gtid) }
     ensures later { O.faults output.old ≤ O.faults output.new }
     ensures failed { result ≡ Err SendEnd.LinkFault → Rose (O.faults output.old) (O.faults output.new) }
-    ensures too_large { result ≡ Err SendEnd.PositionTooLarge → 1024 < length (added position.old entry.now.gtid) }
 {
     match position.add(entry.gtid) {
         Ok(()) => {}
@@ -43,7 +42,7 @@ fn send_entry<O: Sink>(
     }
     // The call also tells the proof that the position is canonical.
     let _count = position.intervals();
-    let Ok(frame) = statement_frame(alloc, name, entry, position) else {
+    let Ok(frame) = entry_frame(alloc, name, entry, position) else {
         return Err(SendEnd::Memory);
     };
     match write_all(output, &frame) {
@@ -52,24 +51,28 @@ fn send_entry<O: Sink>(
     }
 }
 
-/// Sends the frames of the entries, in order, and moves the position along. After a refusal the
-/// frames of the first entries were written whole; where the output failed, a beginning of one more.
+/// Sends the frames of the entries that the start lacks, in order. After a refusal the frames of the
+/// first of them were written whole; where the output failed, a beginning of one more.
 pub fn send_entries<O: Sink>(
     alloc: Global,
     output: &mut O,
     name: &ShardName,
     entries: &[Entry],
-    position: &mut GtidSet,
+    start: &GtidSet,
 ) -> Result<(), SendEnd>
-    requires { All (λ e. IsStatement e.work) entries.now }
-    ensures wrote { Writes (O.sent output.old) (O.sent output.new) (λ w. AreSent name.now position.old entries.now result w) }
-    ensures position { OnOk result (position.new ≡ position_after position.old entries.now) }
+    requires { All (λ e. IsBuilt e.work) entries.now }
+    ensures wrote { Writes (O.sent output.old) (O.sent output.new) (λ w. AreSent name.now start.now (lacking start.now entries.now) result w) }
     ensures later { O.faults output.old ≤ O.faults output.new }
     ensures failed { result ≡ Err SendEnd.LinkFault → Rose (O.faults output.old) (O.faults output.new) }
-    ensures too_large { result ≡ Err SendEnd.PositionTooLarge → IsTooLargeBehind position.old entries.now }
 {
+    let Ok(mut position) = start.copy(alloc) else {
+        return Err(SendEnd::Memory);
+    };
     for entry in entries {
-        send_entry(alloc, output, name, entry, position)?;
+        if start.contains(&entry.gtid) {
+            continue;
+        }
+        send_entry(alloc, output, name, entry, &mut position)?;
     }
     Ok(())
 }

@@ -18,6 +18,8 @@ use vs_gtid::GtidSet;
 pub enum RequestFault {
     /// This release does not read such a request; the index is that of its entry.
     NotBuilt { index: usize },
+    /// The position of an entry is no set of GTIDs, from this byte of its text on.
+    BadPosition { index: usize, at: usize },
 }
 
 /// How a session ended.
@@ -120,11 +122,32 @@ fn put_line(alloc: Global, status: &Status, out: &mut Vec<u8>) -> Result<(), Out
 fn put_request(alloc: Global, fault: &RequestFault, out: &mut Vec<u8>) -> Result<(), OutOfMemory>
     ensures { OnOk result (out.new.items ≡ out.old.items ++ (codes "request: " ++ fault_text fault.now)) }
 {
+    put_words(b"request: ", out)?;
+    put_fault(alloc, fault, out)
+}
+
+fn put_fault(alloc: Global, fault: &RequestFault, out: &mut Vec<u8>) -> Result<(), OutOfMemory>
+    ensures { OnOk result (out.new.items ≡ out.old.items ++ fault_text fault.now) }
+{
     match fault {
-        RequestFault::NotBuilt { index } => {
-            put_counted(alloc, b"request: NotBuilt ", *index as u64, out)
+        RequestFault::NotBuilt { index } => put_counted(alloc, b"NotBuilt ", *index as u64, out),
+        RequestFault::BadPosition { index, at } => {
+            put_two_counted(alloc, b"BadPosition ", *index as u64, *at as u64, out)
         }
     }
+}
+
+fn put_two_counted(
+    alloc: Global,
+    words: &[u8],
+    first: u64,
+    second: u64,
+    out: &mut Vec<u8>,
+) -> Result<(), OutOfMemory>
+    ensures { OnOk result (out.new.items ≡ out.old.items ++ (words.now ++ (decimal first ++ (codes " " ++ decimal second)))) }
+{
+    put_counted(alloc, words, first, out)?;
+    put_counted(alloc, b" ", second, out)
 }
 
 fn put_purged(

@@ -126,17 +126,147 @@ fn stream_words(alloc: Global) -> Result<Vec<String>, AllocError> {
     Ok(words)
 }
 
+/// The log of two statements is asked for by this line.
+fn asking(line: &[u8]) -> Case<'_> {
+    Case {
+        line,
+        ..plain(&LOG)
+    }
+}
+
+/// It is fed so.
+fn fed(feed: &[FeedAnswer]) -> Case<'_> {
+    Case {
+        feed,
+        ..plain(&LOG)
+    }
+}
+
 #[test]
 fn a_log_is_streamed_to_its_end(rt: HostRuntime) -> Result<(), AllocError> {
     let alloc = rt.alloc();
     let words = stream_words(alloc)?;
-    let whole = outcome_of(&rt, alloc, &words, &plain(&LOG))?;
-    assert_eq!(rt; whole.written.as_bytes(), FRAMES.as_slice());
-    assert_eq!(rt; whole.number, 0);
-    let empty = outcome_of(&rt, alloc, &words, &plain(&LOG[..FRONT]))?;
-    assert_eq!(rt; (empty.number, empty.written.as_bytes().len()), (0, 0));
-    let nothing = outcome_of(&rt, alloc, &words, &plain(&[]))?;
-    assert_eq!(rt; (nothing.number, nothing.written.as_bytes().len()), (0, 0));
+    let current = asking(b"c/0 current\n");
+    let waiting = Case {
+        feed: &[FeedAnswer::Give(50), FeedAnswer::Wait],
+        ..current
+    };
+    let behind = Case {
+        feed: &[FeedAnswer::Give(205), FeedAnswer::Wait],
+        ..current
+    };
+    for (i, (case, written)) in [
+        (plain(&LOG), &FRAMES[..]),
+        (plain(&LOG[..FRONT]), &FRAMES[..0]),
+        (plain(&[]), &FRAMES[..0]),
+        (fed(&[FeedAnswer::Wait, FeedAnswer::Give(1)]), &FRAMES[..]),
+        (
+            asking(b"c/0 00000000-0000-0000-0000-000000000001:1"),
+            &FRAMES[104..],
+        ),
+        (
+            asking(b"c/0 MySQL56/00000000-0000-0000-0000-000000000001:1-10\n"),
+            &FRAMES[..0],
+        ),
+        (current, &FRAMES[..0]),
+        (waiting, &FRAMES[..0]),
+        (behind, &FRAMES[104..]),
+    ]
+    .into_iter()
+    .enumerate()
+    {
+        let outcome = outcome_of(&rt, alloc, &words, &case)?;
+        assert_eq!(rt; outcome.number, 0, "case {i}");
+        assert_eq!(rt; outcome.written.as_bytes(), written, "case {i}");
+    }
+    Ok(())
+}
+
+/// A transaction that changes no row: a GTID event, BEGIN and XID, of the time 100.
+const TRANSACTION: [u8; 112] =
+    *b"\x64\x00\x00\x00\x21\x01\x00\x00\x00\x2c\x00\x00\x00\x00\x00\x00\x00\x00\x00\x00\
+    \x00\x00\x00\x00\x00\x00\x00\x00\x00\x00\x00\x00\x00\x00\x00\x01\x01\x00\x00\x00\
+    \x00\x00\x00\x00\x64\x00\x00\x00\x02\x01\x00\x00\x00\x29\x00\x00\x00\x00\x00\x00\
+    \x00\x00\x00\x00\x00\x00\x00\x00\x00\x00\x00\x04\x00\x00\x00\x00\x76\x74\x5f\x63\
+    \x00BEGIN\x64\x00\x00\x00\x10\x01\x00\x00\x00\x1b\x00\x00\x00\x00\x00\x00\x00\
+    \x00\x00\x00\x00\x00\x00\x00\x00\x00";
+
+/// Its first event and its last, around the one with the vector.
+const BEGIN: [u8; 14] = *b"\x0a\x0c\x08\x02\x10\x64\xb2\x01\x01\x63\xba\x01\x01\x30";
+
+const COMMIT: [u8; 14] = *b"\x0a\x0c\x08\x03\x10\x64\xb2\x01\x01\x63\xba\x01\x01\x30";
+
+#[test]
+fn a_transaction_has_its_begin_and_commit(rt: HostRuntime) -> Result<(), AllocError> {
+    let alloc = rt.alloc();
+    let words = stream_words(alloc)?;
+    let mut log = Vec::from_slice(alloc, &LOG[..FRONT])?;
+    log.extend_from_slice(&TRANSACTION)?;
+    let outcome = outcome_of(&rt, alloc, &words, &plain(&log))?;
+    let mut frame = Vec::from_slice(alloc, &[0, 0, 0, 100])?;
+    frame.extend_from_slice(&BEGIN)?;
+    frame.extend_from_slice(&FRAMES[4..76])?;
+    frame.extend_from_slice(&COMMIT)?;
+    assert_eq!(rt; outcome.number, 0);
+    assert_eq!(rt; outcome.written.as_bytes(), frame.as_slice());
+    Ok(())
+}
+
+/// A PREVIOUS_GTIDS event of the numbers 1 to 5.
+const PREVIOUS: [u8; 67] =
+    *b"\x00\x00\x00\x00\x23\x01\x00\x00\x00\x43\x00\x00\x00\x00\x00\x00\x00\x80\x00\
+    \x01\x00\x00\x00\x00\x00\x00\x00\x00\x00\x00\x00\x00\x00\x00\x00\x00\x00\x00\x00\
+    \x00\x00\x00\x01\x01\x00\x00\x00\x00\x00\x00\x00\x01\x00\x00\x00\x00\x00\x00\x00\
+    \x06\x00\x00\x00\x00\x00\x00\x00";
+
+/// A line that asks from every second transaction of the first 2,047.
+fn scattered_line(alloc: Global) -> Result<Vec<u8>, AllocError> {
+    let mut line = Vec::from_slice(alloc, b"c/0 00000000-0000-0000-0000-000000000001")?;
+    for i in 0u64..1024 {
+        line.push(b':')?;
+        let number = (2 * i + 1).to_string(alloc)?;
+        line.extend_from_slice(number.as_bytes())?;
+    }
+    Ok(line)
+}
+
+#[test]
+fn a_position_is_refused_where_it_does_not_fit(rt: HostRuntime) -> Result<(), AllocError> {
+    let alloc = rt.alloc();
+    let words = stream_words(alloc)?;
+    let mut purged = Vec::from_slice(alloc, &LOG[..85])?;
+    purged.extend_from_slice(&PREVIOUS)?;
+    let mut far = Vec::from_slice(alloc, &LOG[..148])?;
+    far.extend_from_slice(&[0x88, 0x13])?;
+    far.extend_from_slice(&LOG[150..FIRST])?;
+    let scattered = scattered_line(alloc)?;
+    for (log, asked, number, line) in [
+        (
+            &purged,
+            b"c/0 00000000-0000-0000-0000-000000000001:1-4".as_slice(),
+            5u8,
+            "purged c/0 00000000-0000-0000-0000-000000000001:5",
+        ),
+        (&far, scattered.as_slice(), 14, "position too large c/0"),
+        (
+            &far,
+            b"c/0 00000000-0000-0000-0000-000000000001:0",
+            3,
+            "request: BadPosition 0 37",
+        ),
+        (&far, b"c/0 MySQL57/", 3, "request: BadPosition 0 6"),
+        (&far, b"c/0 ", 3, "request: NotBuilt 0"),
+        (&far, b"c/ current", 3, "request: NotBuilt 0"),
+    ] {
+        let case = Case {
+            line: asked,
+            ..plain(log)
+        };
+        let outcome = outcome_of(&rt, alloc, &words, &case)?;
+        assert_eq!(rt; outcome.number, number);
+        assert_eq!(rt; outcome.line.as_bytes(), line.as_bytes());
+        assert_eq!(rt; outcome.written.as_bytes().len(), 0);
+    }
     Ok(())
 }
 
@@ -174,49 +304,19 @@ fn each_answer_has_its_number(rt: HostRuntime) -> Result<(), AllocError> {
     let none = Vec::new(alloc);
     let usage = outcome_of(&rt, alloc, &none, &plain(&LOG))?;
     assert_eq!(rt; usage.number, 2);
+    let input_fails = Case {
+        input_fails: true,
+        ..plain(&LOG)
+    };
+    let fetch_fails = Case {
+        fetch_fails: true,
+        ..plain(&LOG)
+    };
     for (case, number) in [
-        (
-            Case {
-                line: b"c/0 current\n",
-                ..plain(&LOG)
-            },
-            3,
-        ),
-        (
-            Case {
-                line: b"z/0 MySQL56/",
-                ..plain(&LOG)
-            },
-            4,
-        ),
-        (
-            Case {
-                feed: &[FeedAnswer::Give(9), FeedAnswer::Fail],
-                ..plain(&LOG)
-            },
-            9,
-        ),
-        (
-            Case {
-                input_fails: true,
-                ..plain(&LOG)
-            },
-            11,
-        ),
-        (
-            Case {
-                fetch_fails: true,
-                ..plain(&LOG)
-            },
-            12,
-        ),
-        (
-            Case {
-                feed: &[FeedAnswer::Wait, FeedAnswer::Give(1)],
-                ..plain(&LOG)
-            },
-            0,
-        ),
+        (asking(b"z/0 MySQL56/"), 4),
+        (fed(&[FeedAnswer::Give(9), FeedAnswer::Fail]), 9),
+        (input_fails, 11),
+        (fetch_fails, 12),
     ] {
         assert_eq!(rt; outcome_of(&rt, alloc, &words, &case)?.number, number);
     }

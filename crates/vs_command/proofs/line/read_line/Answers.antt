@@ -30,7 +30,7 @@ loop-count-preserved g c =
 
 pub returns-clause-long : goal.returns-clause-long
 returns-clause-long g c = λ h.
-    let before : c.loop-count._count ≤ 256 = c.loop-count.auto._count-end in
-    let after : 256 ≤ c.loop-count._count = c.loop-count-test.false in
-    let full : length c.loop-count.line.items ≡ 256 = c.loop-count.invariant.count_is ∙ omega (arith, before, after) in
-    line-long (g.I.Source.left c.args.input.now) (g.I.Source.left c.loop-count.input) c.loop-count.line.items 256 full c.loop-count.invariant.whole c.loop-count.invariant.read
+    let before : c.loop-count._count ≤ 1048576 = c.loop-count.auto._count-end in
+    let after : 1048576 ≤ c.loop-count._count = c.loop-count-test.false in
+    let full : length c.loop-count.line.items ≡ 1048576 = c.loop-count.invariant.count_is ∙ omega (arith, before, after) in
+    line-long (g.I.Source.left c.args.input.now) (g.I.Source.left c.loop-count.input) c.loop-count.line.items 1048576 full c.loop-count.invariant.whole c.loop-count.invariant.read
