@@ -66,8 +66,7 @@ fn format_bytes(version: u8, head: u8, checksum: u8) -> [u8; 62] {
 
 #[test]
 fn formats_are_told_apart(rt: HostRuntime) {
-    let short = read_format(&format_bytes(4, 19, 0)[..61]);
-    assert_eq!(rt; short, Err(FormatRefusal::ShortFormat));
+    assert_eq!(rt; read_format(&[4; 61]), Err(FormatRefusal::ShortFormat));
     for (version, head, checksum, wanted) in [
         (4, 19, 0, Ok(())),
         (3, 18, 1, Err(FormatRefusal::BadVersion { version: 3 })),
