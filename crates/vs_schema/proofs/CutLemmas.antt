@@ -1,6 +1,6 @@
 -- How a text is cut at the first byte of a kind.
 use Rattle.std.proofs.Common.{◌≡◌, ◌≤◌, ◌<◌, ◌+◌, ℕ, Bool, true, false, List, [], ◌∷◌, length, take, drop, nat_lt, refl, ap, sym, ◌∙◌, arith}
-use Rattle.std.specs.Prelude.{Option, Some, None, cond, not}
+use Rattle.std.specs.Prelude.{Some, None, cond, not}
 use Rattle.std.specs.List.{after_first, before_first, onto_first, position, position_or_len, slice_split}
 use Rattle.std.proofs.lemmas.Bool.{ltb-false, ltb-true}
 use Rattle.std.proofs.lemmas.List.Splits.{slice_split_first, slice_split-cons_no, length-slice_split}

@@ -4,3 +4,4 @@ pub mod Kinds
 pub mod Rules
 pub mod Reading
 pub mod Listing
+pub mod Laws

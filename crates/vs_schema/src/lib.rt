@@ -9,11 +9,13 @@ mod key;
 mod kind;
 #[cfg(test)]
 mod kind_tests;
+mod laws;
 mod number;
 mod refusal;
 mod schema;
 #[cfg(test)]
 mod tests;
 
+pub use laws::{law_faults, law_lawful};
 pub use refusal::SchemaRefusal;
 pub use schema::{Listed, Schema};

@@ -1,4 +1,5 @@
 ghost use Rattle.std.specs.Prelude.{◌≡◌, ◌⊎◌, Err, IfOk};
+ghost use Rattle.vs_schema.specs.Laws.{IsLawful};
 ghost use Rattle.vs_schema.specs.Listing.{Lists};
 ghost use Rattle.vs_schema.specs.Rules.{schema_of};
 
@@ -30,37 +31,11 @@ pub enum Listed<'a> {
 impl Schema {
     /// Reads a schema text. Its lines are `table NAME`, `column NAME KIND`, `key NAME ..` and `skip NAME`;
     /// those that are empty or begin with `#` say nothing.
-    #[tactic(auto, unfolding(crate::specs::Rules::by_lines))]
     pub fn read(alloc: Global, text: &[u8]) -> Result<Schema, SchemaRefusal>
-        ensures { (result ≡ Err SchemaRefusal.Memory) ⊎ (result ≡ schema_of text.now) }
+        ensures schema { (result ≡ Err SchemaRefusal.Memory) ⊎ (result ≡ schema_of text.now) }
+        ensures lawful { IfOk result IsLawful }
     {
-        let mut builder = Builder::new(alloc);
-        let mut line_number = 1;
-        let mut rest = text;
-        while rest.len() > 0 {
-            let (line, more) = cut_line(rest);
-            match builder.take_line(alloc, line) {
-                Ok(()) => {}
-                Err(LineFault::Wrong) => return Err(SchemaRefusal::BadSchema { line: line_number }),
-                Err(LineFault::Memory) => return Err(SchemaRefusal::Memory),
-            }
-            line_number += 1;
-            rest = more;
-        }
-        match builder.close() {
-            Ok(()) => {}
-            Err(LineFault::Wrong) => return Err(SchemaRefusal::BadSchema { line: line_number }),
-            Err(LineFault::Memory) => return Err(SchemaRefusal::Memory),
-        }
-        let Builder {
-            tables,
-            skipped,
-            ..
-        } = builder;
-        Ok(Schema {
-            tables: List::from_vec(tables),
-            skipped,
-        })
+        read_text(alloc, text)
     }
 
     /// What the schema says of the table with this name.
@@ -93,6 +68,40 @@ impl Schema {
             skipped: self.skipped.copy(alloc)?,
         })
     }
+}
+
+/// Reads the lines of a text one by one.
+#[tactic(auto, unfolding(crate::specs::Rules::by_lines))]
+fn read_text(alloc: Global, text: &[u8]) -> Result<Schema, SchemaRefusal>
+    ensures { (result ≡ Err SchemaRefusal.Memory) ⊎ (result ≡ schema_of text.now) }
+{
+    let mut builder = Builder::new(alloc);
+    let mut line_number = 1;
+    let mut rest = text;
+    while rest.len() > 0 {
+        let (line, more) = cut_line(rest);
+        match builder.take_line(alloc, line) {
+            Ok(()) => {}
+            Err(LineFault::Wrong) => return Err(SchemaRefusal::BadSchema { line: line_number }),
+            Err(LineFault::Memory) => return Err(SchemaRefusal::Memory),
+        }
+        line_number += 1;
+        rest = more;
+    }
+    match builder.close() {
+        Ok(()) => {}
+        Err(LineFault::Wrong) => return Err(SchemaRefusal::BadSchema { line: line_number }),
+        Err(LineFault::Memory) => return Err(SchemaRefusal::Memory),
+    }
+    let Builder {
+        tables,
+        skipped,
+        ..
+    } = builder;
+    Ok(Schema {
+        tables: List::from_vec(tables),
+        skipped,
+    })
 }
 
 /// Copies of tables, in order.

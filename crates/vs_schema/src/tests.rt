@@ -1,4 +1,4 @@
-use crate::{Listed, Schema, SchemaRefusal};
+use crate::{Listed, Schema, SchemaRefusal, law_faults, law_lawful};
 use std::alloc::Global;
 use std::process::Abort;
 use std::test::Fail;
@@ -85,4 +85,10 @@ fn lines_at_fault_are_told(rt: HostRuntime) {
     ] {
         assert_eq!(rt; refused_line(rt.alloc(), text), line);
     }
+}
+
+#[test]
+fn laws_are_called() {
+    law_faults();
+    law_lawful();
 }

@@ -1,4 +1,4 @@
-use Rattle.std.proofs.Common.{◌≡◌, ◌+◌, ◌*◌, ◌-◌, ◌∷◌, ℕ, List, suc, get_or, drop, length, ap, sym, ◌∙◌, arith, drop-cons}
+use Rattle.std.proofs.Common.{◌≡◌, ◌∷◌, ℕ, List, suc, get_or, drop, ap, sym, ◌∙◌, arith, drop-cons}
 use Rattle.vs_schema.specs.Kinds.{number_from}
 use Rattle.vs_schema.proofs.NumberLemmas.{too_large}
 use Rattle.vs_schema.proofs.number.read_number.Goals as goal

@@ -1,6 +1,5 @@
 use Rattle.std.proofs.Common.{◌≡◌, ◌≤◌, drop}
-use Rattle.std.specs.List.{list_all}
-use Rattle.vs_schema.specs.Kinds.{is_digit, number_from}
+use Rattle.vs_schema.specs.Kinds.{number_from}
 use Rattle.vs_schema.proofs.number.read_number.Given as goal
 
 -- the number so far, up to the limit, and the digits that are left

@@ -2,7 +2,7 @@ use Rattle.std.proofs.Common.{◌≡◌, ◌≤◌, ◌+◌, length}
 use Rattle.vs_schema.specs.Lines.{lines_of}
 use Rattle.vs_schema.specs.Reading.{draft_of}
 use Rattle.vs_schema.specs.Rules.{by_lines, schema_of}
-use Rattle.vs_schema.proofs.schema.Schema.read.Given as goal
+use Rattle.vs_schema.proofs.schema.read_text.Given as goal
 
 -- what the text says follows from the lines so far and those that are left
 abbrev pub invariant-loop-rest : goal.invariant-loop-rest
