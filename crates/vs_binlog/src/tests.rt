@@ -1,6 +1,6 @@
 use crate::{
-    FormatRefusal, Head, Query, Step, first_word, is_same_word, next_event, read_format, read_gtid,
-    read_head, read_packed, read_query,
+    FormatRefusal, Head, Query, Step, first_word, is_same_word, law_first_word, next_event,
+    read_format, read_gtid, read_head, read_packed, read_query,
 };
 use std::process::Abort;
 use std::test::Fail;
@@ -145,4 +145,9 @@ fn first_words_are_found(rt: HostRuntime) {
     }
     assert!(rt; is_same_word(b"aLTer", b"ALTER"));
     assert!(rt; !is_same_word(b"alters", b"ALTER"));
+}
+
+#[test]
+fn laws_are_called() {
+    law_first_word();
 }
