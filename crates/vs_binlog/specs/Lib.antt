@@ -3,3 +3,4 @@ pub mod Bodies
 pub mod Lent
 pub mod Packed
 pub mod Words
+pub mod FirstWords

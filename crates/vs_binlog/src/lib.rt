@@ -5,6 +5,7 @@
 mod event;
 mod format;
 mod gtid;
+mod laws;
 mod packed;
 mod query;
 #[cfg(test)]
@@ -14,6 +15,7 @@ mod word;
 pub use event::{HEAD, Head, Step, next_event, read_head};
 pub use format::{FormatRefusal, read_format};
 pub use gtid::read_gtid;
+pub use laws::law_first_word;
 pub use packed::read_packed;
 pub use query::{Query, read_query};
 pub use word::{first_word, is_same_word};

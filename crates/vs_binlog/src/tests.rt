@@ -1,6 +1,6 @@
 use crate::{
-    FormatRefusal, Head, Query, Step, first_word, is_same_word, next_event, read_format, read_gtid,
-    read_head, read_packed, read_query,
+    FormatRefusal, Head, Query, Step, first_word, is_same_word, law_first_word, next_event,
+    read_format, read_gtid, read_head, read_packed, read_query,
 };
 use std::process::Abort;
 use std::test::Fail;
@@ -66,8 +66,7 @@ fn format_bytes(version: u8, head: u8, checksum: u8) -> [u8; 62] {
 
 #[test]
 fn formats_are_told_apart(rt: HostRuntime) {
-    let short = read_format(&format_bytes(4, 19, 0)[..61]);
-    assert_eq!(rt; short, Err(FormatRefusal::ShortFormat));
+    assert_eq!(rt; read_format(&[4; 61]), Err(FormatRefusal::ShortFormat));
     for (version, head, checksum, wanted) in [
         (4, 19, 0, Ok(())),
         (3, 18, 1, Err(FormatRefusal::BadVersion { version: 3 })),
@@ -146,4 +145,9 @@ fn first_words_are_found(rt: HostRuntime) {
     }
     assert!(rt; is_same_word(b"aLTer", b"ALTER"));
     assert!(rt; !is_same_word(b"alters", b"ALTER"));
+}
+
+#[test]
+fn laws_are_called() {
+    law_first_word();
 }

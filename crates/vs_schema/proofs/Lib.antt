@@ -1,0 +1,5 @@
+pub mod CutLemmas
+pub mod NumberLemmas
+pub mod LawfulLemmas
+pub mod FaultLemmas
+pub mod Lawful

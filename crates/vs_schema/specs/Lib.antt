@@ -1,0 +1,7 @@
+pub mod Words
+pub mod Lines
+pub mod Kinds
+pub mod Rules
+pub mod Reading
+pub mod Listing
+pub mod Laws
