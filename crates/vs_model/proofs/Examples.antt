@@ -24,13 +24,13 @@ pub one_fits : (n : ℕ) → length (n ∷ []) ≤ 64
 one_fits n = omega arith
 
 -- keyspaces, shards and servers are numbered
-abbrev shard : ℕ → ℕ → ShardName
+abbrev pub shard : ℕ → ℕ → ShardName
 shard keyspace n = record { keyspace = keyspace ∷ []; shard = n ∷ []; keyspace_fits = one_fits keyspace; shard_fits = one_fits n }
 
 abbrev pub server : ℕ → List ℕ
 server n = 0 ∷ 0 ∷ 0 ∷ 0 ∷ 0 ∷ 0 ∷ 0 ∷ 0 ∷ 0 ∷ 0 ∷ 0 ∷ 0 ∷ 0 ∷ 0 ∷ 0 ∷ n ∷ []
 
-abbrev interval : ℕ → ℕ → ℕ → Interval
+abbrev pub interval : ℕ → ℕ → ℕ → Interval
 interval s a b = record { uuid = server s; first = a; last = b }
 
 abbrev pub up_to : ℕ → ℕ → Position
@@ -42,22 +42,22 @@ entry n p q work = record { gtid = record { uuid = server 1; number = n; first =
 abbrev pub log : List Entry → Log
 log entries = record { base = []; entries = entries; fault = None }
 
-abbrev journal : (ps : List ShardName) (ns : List Successor) → length ps ≤ 64 → length ns ≤ 64 → names_differ ps ≡ true →
+abbrev pub journal : (ps : List ShardName) (ns : List Successor) → length ps ≤ 64 → length ns ≤ 64 → names_differ ps ≡ true →
     names_differ (map (λ n. n.name) ns) ≡ true → JournalValue
 journal ps ns a b c d = record { id = pos 7; shards = true; participants = ps; successors = ns; few_participants = a; few_successors = b; participants_differ = c; successors_differ = d }
 
-halves_differ : names_differ (shard 1 40 ∷ shard 1 60 ∷ []) ≡ true
+pub halves_differ : names_differ (shard 1 40 ∷ shard 1 60 ∷ []) ≡ true
 unfolding same_name
 halves_differ = refl
 
 -- the shard 80 becomes 40 and 60
-abbrev split : JournalValue
+abbrev pub split : JournalValue
 split =
     let halves : List Successor = record { name = shard 1 40; position = up_to 2 1 } ∷ record { name = shard 1 60; position = up_to 3 1 } ∷ [] in
     journal (shard 1 80 ∷ []) halves (omega arith) (omega arith) refl halves_differ
 
 -- the shards 40 and 60 become 80
-abbrev merge : JournalValue
+abbrev pub merge : JournalValue
 merge =
     let whole : List Successor = record { name = shard 1 80; position = up_to 4 1 } ∷ [] in
     journal (shard 1 40 ∷ shard 1 60 ∷ []) whole (omega arith) (omega arith) halves_differ refl
@@ -70,16 +70,16 @@ unfolding same_name
 switches = (refl, refl)
 
 -- a statement, a journal and a statement
-abbrev one : Entry
+abbrev pub one : Entry
 one = entry 1 (omega arith) (omega arith) (Ddl [])
 
-abbrev two : JournalValue → Entry
+abbrev pub two : JournalValue → Entry
 two j = entry 2 (omega arith) (omega arith) (Journal j)
 
-abbrev three : Entry
+abbrev pub three : Entry
 three = entry 3 (omega arith) (omega arith) (Ddl [])
 
-abbrev resharded : JournalValue → Log
+abbrev pub resharded : JournalValue → Log
 resharded j = log (one ∷ two j ∷ three ∷ [])
 
 -- a participant stops at the journal, and to another shard it is due

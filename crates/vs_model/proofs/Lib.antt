@@ -10,3 +10,10 @@ mod Comes
 mod Stays
 mod Final
 mod CopyExamples
+mod Lanes
+mod LaneExamples
+mod Given
+mod Gate
+mod GateLanes
+mod CoreRuns
+mod CoreEnds

@@ -7,3 +7,4 @@ pub mod Legal
 pub mod Steps
 pub mod Reached
 pub mod Requests
+pub mod Core

@@ -5,19 +5,20 @@
 #[cfg(test)]
 mod tests;
 
-ghost use Rattle.std.specs.Prelude.{◌≡◌, ◌++◌, List, ℕ};
+ghost use Rattle.std.specs.Prelude.{[], ◌++◌, ◌∷◌, ◌≡◌, List, false, ℕ};
 ghost use Rattle.vs_base.specs.declared.ShardName.{ShardName};
 ghost use Rattle.vs_gtid.specs.declared.Entry.{Entry};
 ghost use Rattle.vs_gtid.specs.declared.JournalValue.{JournalValue};
-ghost use Rattle.vs_model.specs.Copy.{Filter};
+ghost use Rattle.vs_model.specs.Copy.{Bound, Filter, picked};
+ghost use Rattle.vs_model.specs.Core.{AreLanes, Core, CoreRun, HasAllCopied};
 ghost use Rattle.vs_model.specs.Frames.Frame.{AllCopied, Beat, Halt, Switch, Tx};
 ghost use Rattle.vs_model.specs.Frames.{Frame, last_vector};
 ghost use Rattle.vs_model.specs.Legal.{AllCopiedFollows, HasGathered, Legal, NoneCopies};
 ghost use Rattle.vs_model.specs.Logs.{Cluster, HaveDistinctGtids, IsPositionAfter, Log, LogsAreDistinct, due, stop};
 ghost use Rattle.vs_model.specs.Names.{Position};
 ghost use Rattle.vs_model.specs.Reached.{HasAllDue, IsFinal, IsSettled, StartsAreUnique, StartsToStream};
-ghost use Rattle.vs_model.specs.Steps.{SendsCopy, SendsTx, Step, Steps};
-ghost use Rattle.vs_model.specs.Vectors.{IsCanonicalVector, Vector, switched};
+ghost use Rattle.vs_model.specs.Steps.{AreFirstDue, SendsCopy, SendsTx, Step, Steps};
+ghost use Rattle.vs_model.specs.Vectors.{Copies, IsCanonicalVector, Place, Vector, switched};
 
 /// Frames that follow one another by lawful steps are a legal list, and there is no other.
 pub fn law_steps()
@@ -64,4 +65,29 @@ pub fn law_due()
         due s log p ≡ sent ++ rest → IsPositionAfter p sent q → due s log q ≡ rest }
     ensures stop { (s : ShardName) (log : Log) (p q : Position) (sent rest : List Entry) → HaveDistinctGtids log.entries →
         due s log p ≡ sent ++ rest → IsPositionAfter p sent q → stop s log q ≡ stop s log p }
+{}
+
+/// Where a lane's first pieces were handled, the next one is the transaction of the first entry that
+/// is due. Where all were, and they were all that was due, nothing is due, and the journal ahead is
+/// the one that was ahead of the lane's start.
+pub fn law_lane()
+    ensures next { (bound : Bound) (s : ShardName) (log : Log) (p q : Position) (handled waiting : List Entry) (told : Entry) →
+        HaveDistinctGtids log.entries → AreFirstDue bound s log p (handled ++ told ∷ waiting) → IsPositionAfter p handled q →
+        (e : Entry) × (rest : List Entry) × (due s log q ≡ e ∷ rest) × (told ≡ picked bound e) }
+    ensures end { (bound : Bound) (s : ShardName) (log : Log) (p q : Position) (handled : List Entry) → HaveDistinctGtids log.entries →
+        (all : AreFirstDue bound s log p handled) → all.rest ≡ [] → IsPositionAfter p handled q →
+        (due s log q ≡ []) × (stop s log q ≡ stop s log p) }
+{}
+
+/// Whatever the order in which pieces are taken and handled, lanes are lost and begun again, and
+/// journals take effect: where each lane gave what its log lets it, the frames are legal. The gate's
+/// vector is the last one. Where a shard copied and none does any more, the end of all copies was
+/// sent behind the last end of a copy, or is due.
+pub fn law_core()
+    ensures legal { (cluster : Cluster) (rules : Filter) (v0 : Vector) (fs : List Frame) (core : Core) → LogsAreDistinct cluster →
+        IsCanonicalVector v0 → CoreRun v0 fs core → AreLanes cluster rules core → Legal cluster rules v0 fs }
+    ensures vector { (v0 : Vector) (fs : List Frame) (core : Core) → CoreRun v0 fs core → last_vector v0 fs ≡ core.vector }
+    ensures all_copied { (cluster : Cluster) (rules : Filter) (v0 : Vector) (fs : List Frame) (core : Core) (s : ShardName) (place : Place) →
+        LogsAreDistinct cluster → IsCanonicalVector v0 → CoreRun v0 fs core → AreLanes cluster rules core →
+        Copies v0 s place → NoneCopies core.vector → core.all_copied ≡ false → HasAllCopied fs }
 {}

@@ -1,0 +1,8 @@
+use Rattle.vs_model.proofs.Lanes.{next_piece, lane_end}
+use Rattle.vs_model.proofs.law_lane.Goals as goal
+
+pub returns-clause-next : goal.returns-clause-next
+returns-clause-next c = λ bound s log p q handled waiting told distinct all grown. next_piece bound s log p q handled distinct grown told waiting all
+
+pub returns-clause-end : goal.returns-clause-end
+returns-clause-end c = λ bound s log p q handled distinct all none grown. lane_end bound s log p q handled distinct grown all none
