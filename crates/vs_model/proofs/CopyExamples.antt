@@ -5,6 +5,7 @@ use Rattle.vs_base.specs.declared.Change.{Change}
 use Rattle.vs_base.specs.declared.LastKey.{LastKey}
 use Rattle.vs_gtid.specs.Positions.{has}
 use Rattle.vs_gtid.specs.declared.Work.TheVariants.{Rows}
+use Rattle.vs_gtid.specs.declared.Entry.{Entry}
 use Rattle.vs_model.specs.Logs.{Image, Log}
 use Rattle.vs_model.specs.Copy.{Bound, picked_change, change_within, changes_in, front, next_rows, within_limits}
 use Rattle.vs_model.proofs.Examples.{one_fits, up_to, entry, log}
@@ -36,12 +37,14 @@ picks : (picked_change below_nine (change (Some (row 5)) (Some (row 50))) ≡ So
 picks = (refl, refl)
 
 -- One transaction inserts the rows 1 to 3, and the next makes row 1 row 5.
+abbrev pub inserts : Entry
+inserts = entry 1 (omega arith) (omega arith) (Rows (change None (Some (row 1)) ∷ change None (Some (row 2)) ∷ change None (Some (row 3)) ∷ []))
+
+abbrev pub renames : Entry
+renames = entry 2 (omega arith) (omega arith) (Rows (change (Some (row 1)) (Some (row 5)) ∷ []))
+
 abbrev pub copied : Log
-copied =
-    let inserts : List Change = change None (Some (row 1)) ∷ change None (Some (row 2)) ∷ change None (Some (row 3)) ∷ [] in
-    let first = entry 1 (omega arith) (omega arith) (Rows inserts) in
-    let next = entry 2 (omega arith) (omega arith) (Rows (change (Some (row 1)) (Some (row 5)) ∷ [])) in
-    log (first ∷ next ∷ [])
+copied = log (inserts ∷ renames ∷ [])
 
 abbrev rows_to : ℕ → Option LastKey → Option (List ℕ × List (Image × Image))
 rows_to n l = next_rows below_nine (changes_in (front copied (up_to 1 n))) l

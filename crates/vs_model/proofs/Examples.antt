@@ -108,22 +108,24 @@ asks : asked ((shard 1 80, log []) ∷ (shard 1 81, log []) ∷ (shard 2 1, log 
     ≡ (shard 3 1, FromEnd) ∷ (shard 1 80, From []) ∷ (shard 1 81, From []) ∷ []
 asks = refl
 
-server_bytes : (k : ℕ) → slice_index (server 1) k < 256
-server_bytes = within (server 1) (search arith)
+server_bytes : (s : ℕ) → s < 256 → (k : ℕ) → slice_index (server s) k < 256
+server_bytes s few =
+    let z : 0 < 256 = omega arith in
+    within (server s) (z, (z, (z, (z, (z, (z, (z, (z, (z, (z, (z, (z, (z, (z, (z, (few, tt))))))))))))))))
   where
     within : (xs : List ℕ) → AllByRecursion (λ b. b < 256) xs → (k : ℕ) → slice_index xs k < 256
     within [] h k = omega arith
     within (x ∷ xs) h zero = h.0
     within (x ∷ xs) h (suc k) = within xs h.1 k
 
-is_interval : (a b : ℕ) → 1 ≤ a → a ≤ b → b ≤ 2 ^ 63 - 2 → IsInterval (interval 1 a b)
-is_interval a b from ascends to = record { uuid = refl; bytes = server_bytes; first = from; ascends = ascends; last = to }
+pub is_interval : (s a b : ℕ) → s < 256 → 1 ≤ a → a ≤ b → b ≤ 2 ^ 63 - 2 → IsInterval (interval s a b)
+is_interval s a b few from ascends to = record { uuid = refl; bytes = server_bytes s few; first = from; ascends = ascends; last = to }
 
 -- intervals stand apart, and those that meet are spelled as one
 apart : IsCanonical (interval 1 1 2 ∷ interval 1 4 4 ∷ [])
 apart =
     let gap : 3 < 4 = omega arith in
-    (is_interval 1 2 (omega arith) (omega arith) (omega arith), inr (refl, gap), (is_interval 4 4 (omega arith) (omega arith) (omega arith), tt, tt))
+    (is_interval 1 1 2 (omega arith) (omega arith) (omega arith) (omega arith), inr (refl, gap), (is_interval 1 4 4 (omega arith) (omega arith) (omega arith) (omega arith), tt, tt))
 
 meeting : IsCanonical (interval 1 1 2 ∷ interval 1 3 4 ∷ []) → ⊥
 meeting h = ⊎_elim (λ less. true≢false (ap is_eq less)) (λ gap. let lt = gap.1 in omega arith) h.1

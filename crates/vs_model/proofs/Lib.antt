@@ -17,3 +17,4 @@ mod Gate
 mod GateLanes
 mod CoreRuns
 mod CoreEnds
+mod CoreExamples
