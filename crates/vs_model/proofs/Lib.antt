@@ -18,3 +18,4 @@ mod GateLanes
 mod CoreRuns
 mod CoreEnds
 mod CoreExamples
+mod Keys
