@@ -19,3 +19,6 @@ mod CoreRuns
 mod CoreEnds
 mod CoreExamples
 mod Keys
+mod CopyRows
+mod Client
+mod ClientChanges
