@@ -7,16 +7,13 @@ use Rattle.std.specs.Cmp.Lexicographic.{slice_cmp}
 use Rattle.std.specs.declared.cmp.Ordering.{Ordering}
 use Rattle.std.specs.declared.cmp.Ordering.TheVariants.{Equal}
 use Rattle.std.proofs.lemmas.Bool.{or_parts}
+use Rattle.std.proofs.lemmas.List.Sums.{fold-append}
 use Rattle.vs_base.specs.declared.Change.{Change}
 use Rattle.vs_model.specs.Logs.{Image}
 use Rattle.vs_model.specs.Copy.{Bound, has_key, kept_if, row_after, row_at, with_images, picked_change}
 use Rattle.vs_model.specs.Copies.{KeepsKeys, ChangesFit, client_after, has_told_key}
 use Rattle.vs_model.proofs.Keys.{equal_from, row_at-alike, row_has_key}
 use Rattle.vs_model.proofs.Client.{cond_same, same_table, its_table}
-
-fold-append : {A B : Type 0} (f : B → A → B) (xs ys : List A) (b : B) → fold f b (xs ++ ys) ≡ fold f (fold f b xs) ys
-fold-append f [] ys b = refl
-fold-append f (x ∷ xs) ys b = fold-append f xs ys (f b x)
 
 none_of : {X : Type 0} (o : Option X) → is_some o ≡ false → o ≡ None
 none_of None e = refl
@@ -230,7 +227,7 @@ module _ (bound : Bound) (told_key : List ℕ → Image → Image) (keeps : Keep
         ≡ cond (within table k) (pick_row (row_at bound (changes ++ c ∷ []) table k)) None
     change_told changes behind c fit =
         by (is_eq (slice_cmp nat_cmp c.table table)) refl
-        ∙ ap (λ r. cond (within table k) (pick_row r) None) (sym (fold-append (row_after bound table k) changes (c ∷ []) None))
+        ∙ ap (λ r. cond (within table k) (pick_row r) None) (sym (fold-append (row_after bound table k) None changes (c ∷ [])))
       where
         by : (b : Bool) → is_eq (slice_cmp nat_cmp c.table table) ≡ b →
             client (cond (within table k) (pick_row (row_at bound changes table k)) None) (told c)

@@ -22,3 +22,5 @@ mod Keys
 mod CopyRows
 mod Client
 mod ClientChanges
+mod CopyFronts
+mod CopyFrames

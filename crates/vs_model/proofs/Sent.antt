@@ -54,7 +54,7 @@ due_lacked s log p =
     filter_none (λ e. has p e.gtid) (due s log p)
     (none_up_to_own (λ e. has p e.gtid) s (after log p) (none_refused (λ e. has p e.gtid) log.entries))
 
-gtids_of_all : (es : List Entry) → AllByRecursion (λ e. is_gtid_of es e.gtid ≡ true) es
+pub gtids_of_all : (es : List Entry) → AllByRecursion (λ e. is_gtid_of es e.gtid ≡ true) es
 gtids_of_all [] = tt
 gtids_of_all (e ∷ es) = (
   or_left (same_gtid e.gtid e.gtid) (is_gtid_of es e.gtid) (same_gtid-refl e.gtid),
