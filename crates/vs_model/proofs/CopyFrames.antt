@@ -11,6 +11,8 @@ use Rattle.std.proofs.lemmas.Cmp.{alike_right, tied_back, tied_itself}
 use Rattle.std.proofs.lemmas.List.Sums.{fold-append}
 use Rattle.std.proofs.lemmas.List.Elements.{Contains-append_left, Contains-append_right, Contains-push, All-contains, All-from_recursion, filter_map-append}
 use Rattle.vs_base.specs.declared.ShardName.{ShardName}
+use Rattle.std.proofs.Math.Bool.{or-false}
+use Rattle.vs_base.specs.declared.Gtid.{Gtid}
 use Rattle.vs_base.specs.declared.Change.{Change}
 use Rattle.vs_base.specs.declared.LastKey.{LastKey}
 use Rattle.vs_gtid.specs.declared.Work.{Work}
@@ -37,7 +39,7 @@ use Rattle.vs_model.proofs.ClientChanges.{cut_image, cut, changes_told}
 use Rattle.vs_model.proofs.CopyFronts.{front-sent}
 use Rattle.vs_model.proofs.CoreRuns.{not_nil}
 
-flat_map-append : {X A : Type 0} (f : X → List A) (xs ys : List X) → flat_map f (xs ++ ys) ≡ flat_map f xs ++ flat_map f ys
+pub flat_map-append : {X A : Type 0} (f : X → List A) (xs ys : List X) → flat_map f (xs ++ ys) ≡ flat_map f xs ++ flat_map f ys
 flat_map-append f [] ys = refl
 flat_map-append f (x ∷ xs) ys = ap (λ l. f x ++ l) (flat_map-append f xs ys) ∙ sym (append_assoc (f x) (flat_map f xs) (flat_map f ys))
 
@@ -127,6 +129,19 @@ module _ (bound : Bound) where
       pub grown : IsPositionAfter [] sent (start_of place)
       pub rows : ChangesFit bound (changes_in sent) → (table : List ℕ) → Contains bound.tables table → (key : Image) →
           client cs table key ≡ copied_row bound place (changes_in sent) table key
+
+    -- where a copy begins, the client has nothing
+    pub fits_nothing : CopyAt Fresh []
+    fits_nothing = record {
+      sent = [];
+      rest = due s log [];
+      split = refl;
+      grown = λ g. nothing_more g;
+      rows = λ fit table picked_table key. refl;
+    }
+      where
+        nothing_more : (g : Gtid) → has [] g ≡ (has [] g || false)
+        nothing_more g = sym (or-false (has [] g))
 
     client-append : (cs more : List Change) (table : List ℕ) (key : Image) →
         client (cs ++ more) table key ≡ fold (client_after bound told_key table key) (client cs table key) more

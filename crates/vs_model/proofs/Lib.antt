@@ -24,3 +24,4 @@ mod Client
 mod ClientChanges
 mod CopyFronts
 mod CopyFrames
+mod CopiesLaw

@@ -5,20 +5,33 @@
 #[cfg(test)]
 mod tests;
 
-ghost use Rattle.std.specs.Prelude.{[], ◌++◌, ◌∷◌, ◌≡◌, List, false, ℕ};
+ghost use Rattle.std.specs.List.{AllByRecursion, Contains};
+ghost use Rattle.std.specs.Prelude.{[], ◌++◌, ◌∷◌, ◌≡◌, IsTrue, List, Some, false, ℕ};
 ghost use Rattle.vs_base.specs.declared.ShardName.{ShardName};
 ghost use Rattle.vs_gtid.specs.declared.Entry.{Entry};
 ghost use Rattle.vs_gtid.specs.declared.JournalValue.{JournalValue};
-ghost use Rattle.vs_model.specs.Copy.{Bound, Filter, picked};
+ghost use Rattle.vs_model.specs.Copies.{ChangesFit, IsOrdered, KeepsKeys, client_row, copied_row};
+ghost use Rattle.vs_model.specs.Copy.{Bound, Filter, changes_in, front, picked};
 ghost use Rattle.vs_model.specs.Core.{AreLanes, Core, CoreRun, HasAllCopied};
 ghost use Rattle.vs_model.specs.Frames.Frame.{AllCopied, Beat, Halt, Switch, Tx};
-ghost use Rattle.vs_model.specs.Frames.{Frame, last_vector};
+ghost use Rattle.vs_model.specs.Frames.{Frame, frames_of, last_vector, vectors_along};
 ghost use Rattle.vs_model.specs.Legal.{AllCopiedFollows, HasGathered, Legal, NoneCopies};
-ghost use Rattle.vs_model.specs.Logs.{Cluster, HaveDistinctGtids, IsPositionAfter, Log, LogsAreDistinct, due, stop};
+ghost use Rattle.vs_model.specs.Logs.{
+  Cluster,
+  HaveDistinctGtids,
+  Image,
+  IsPositionAfter,
+  Log,
+  LogsAreDistinct,
+  due,
+  log_of,
+  stop,
+};
 ghost use Rattle.vs_model.specs.Names.{Position};
-ghost use Rattle.vs_model.specs.Reached.{HasAllDue, IsFinal, IsSettled, StartsAreUnique, StartsToStream};
+ghost use Rattle.vs_model.specs.Reached.{HasAllDue, IsFinal, IsSettled, StartsAreUnique, StartsToStream, start_of};
 ghost use Rattle.vs_model.specs.Steps.{AreFirstDue, SendsCopy, SendsTx, Step, Steps};
-ghost use Rattle.vs_model.specs.Vectors.{Copies, IsCanonicalVector, Place, Vector, switched};
+ghost use Rattle.vs_model.specs.Vectors.Place.{Fresh};
+ghost use Rattle.vs_model.specs.Vectors.{Copies, IsCanonicalVector, Place, Vector, place_of, stands, switched};
 
 /// Frames that follow one another by lawful steps are a legal list, and there is no other.
 pub fn law_steps()
@@ -90,4 +103,18 @@ pub fn law_core()
     ensures all_copied { (cluster : Cluster) (rules : Filter) (v0 : Vector) (fs : List Frame) (core : Core) (s : ShardName) (place : Place) →
         LogsAreDistinct cluster → IsCanonicalVector v0 → CoreRun v0 fs core → AreLanes cluster rules core →
         Copies v0 s place → NoneCopies core.vector → core.all_copied ≡ false → HasAllCopied fs }
+{}
+
+/// A client that applies the frames of a shard to empty tables, from the beginning of its copy on,
+/// has the shard's picked rows up to the last key that was sent, and all of them after the end of
+/// the copy: those that the entries before its position leave. The keys of the picked tables are
+/// told, and each change fits the rows that the changes before it leave.
+pub fn law_copies()
+    ensures { (cluster : Cluster) (rules : Filter) (told_key : List ℕ → Image → Image) (v0 : Vector) (fs : List Frame) (s : ShardName) (place : Place) →
+        LogsAreDistinct cluster → IsOrdered (rules s) → KeepsKeys (rules s) told_key →
+        Legal cluster rules v0 fs → place_of v0 s ≡ Some Fresh → AllByRecursion (λ v. IsTrue (stands v s)) (vectors_along v0 fs) →
+        place_of (last_vector v0 fs) s ≡ Some place → ChangesFit (rules s) (changes_in (front (log_of cluster s) (start_of place))) →
+        (table : List ℕ) (key : Image) → Contains (rules s).tables table →
+        client_row (rules s) told_key (frames_of s fs) table key
+        ≡ copied_row (rules s) place (changes_in (front (log_of cluster s) (start_of place))) table key }
 {}

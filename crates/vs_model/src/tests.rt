@@ -1,4 +1,4 @@
-use crate::{law_core, law_due, law_final, law_frames, law_lane, law_resume, law_steps};
+use crate::{law_copies, law_core, law_due, law_final, law_frames, law_lane, law_resume, law_steps};
 
 #[test]
 fn laws_are_called() {
@@ -9,4 +9,5 @@ fn laws_are_called() {
     law_due();
     law_lane();
     law_core();
+    law_copies();
 }
