@@ -1,24 +1,24 @@
 -- A client that applies the changes of a frame goes on having the rows that it is to have.
-use Rattle.std.proofs.Common.{◌≡◌, ◌≢◌, ◌⊎◌, inl, inr, ⊎_elim, ℕ, Bool, true, false, not, cond, ◌||◌, ◌&&◌, List, [], ◌∷◌, ◌++◌, append_assoc, map, Option, Some, None, IfSome, Contains, is_some, fold, filter_map, option_and_then, if◌then◌else◌, refl, ap, sym, ◌∙◌, subst, true≢false}
-use Rattle.std.specs.List.{list_any, cons_option, last_or, AllByRecursion}
-use Rattle.std.specs.Option.{option_map_or}
-use Rattle.std.specs.Ordering.{is_eq, is_gt, nat_cmp, ordering_reverse}
+use Rattle.std.proofs.Common.{◌≡◌, ◌≢◌, ℕ, Bool, true, false, not, cond, ◌||◌, List, [], ◌∷◌, ◌++◌, append_assoc, map, Option, Some, None, IfSome, Contains, fold, option_and_then, refl, ap, sym, ◌∙◌, subst, true≢false}
+use Rattle.std.specs.List.{list_any, last_or, AllByRecursion}
+use Rattle.std.specs.Ordering.{is_eq, is_gt, nat_cmp}
 use Rattle.std.specs.FinMap.{nat_cmp-IsAntisymmetric, slice_cmp-IsAntisymmetric}
 use Rattle.std.specs.Cmp.{IsTotalOrder, Equal-is}
 use Rattle.std.specs.Cmp.Lexicographic.{slice_cmp, lists_total}
 use Rattle.std.specs.declared.cmp.Ordering.{Ordering}
 use Rattle.std.specs.declared.cmp.Ordering.TheVariants.{Less, Equal, Greater}
-use Rattle.std.proofs.lemmas.Bool.{cases_Bool, or_left, or_right, or_parts, or_from}
-use Rattle.std.proofs.lemmas.Cmp.{alike_right, tied_itself, tied_back, nat_cmp_total}
+use Rattle.std.proofs.lemmas.Bool.{or_from}
+use Rattle.std.proofs.lemmas.Cmp.{tied_itself, nat_cmp_total}
 use Rattle.std.proofs.lemmas.List.Folds.{list_any-append}
 use Rattle.vs_base.specs.declared.Change.{Change}
 use Rattle.vs_base.specs.declared.LastKey.{LastKey}
 use Rattle.vs_model.specs.Logs.{Image}
-use Rattle.vs_model.specs.Copy.{Bound, has_key, kept_if, row_after, row_at, is_after, is_after_in, with_images, picked_change, chunk_of}
-use Rattle.vs_model.specs.Copies.{AreAscending, KeepsKeys, ChangesFit, client_after, has_told_key, picked_row_at}
+use Rattle.vs_model.specs.Copy.{Bound, row_at, is_after, is_after_in}
+use Rattle.vs_model.specs.Copies.{AreAscending, KeepsKeys, client_after, has_told_key}
 use Rattle.vs_model.proofs.Lists.{cons_is_not_nil, same_some, some_is_not_none}
-use Rattle.vs_model.proofs.Keys.{less_turned, greater_turned, greater_twice, equal_from, has_key-alike, row_at-alike, row_has_key}
-use Rattle.vs_model.proofs.CopyRows.{pick, IsPickedRow, pick-alike, by_key, rows_left, left_picked, left_after, left_ascend, left_found, after-alike, chunk_front}
+use Rattle.vs_model.proofs.Each.{all_none, all_weaker}
+use Rattle.vs_model.proofs.Keys.{less_turned, greater_turned, greater_twice, equal_from, row_has_key}
+use Rattle.vs_model.proofs.CopyRows.{pick, IsPickedRow, pick-alike, by_key, rows_left, left_picked, left_after, left_ascend, left_found}
 
 greater_from : (r : Ordering) → is_gt r ≡ true → r ≡ Greater
 greater_from Less f = absurd (true≢false (sym f))
@@ -40,14 +40,6 @@ cond_same true x = refl
 cond_same false x = refl
 
 module _ {X : Type 0} where
-  pub all_none : (t : X → Bool) (xs : List X) → AllByRecursion (λ x. t x ≡ false) xs → list_any t xs ≡ false
-  all_none t [] h = refl
-  all_none t (x ∷ xs) h = or_from (t x) (list_any t xs) h.0 (all_none t xs h.1)
-
-  pub all_mapped : (P Q : X → Type 0) → ((x : X) → P x → Q x) → (xs : List X) → AllByRecursion P xs → AllByRecursion Q xs
-  all_mapped P Q f [] h = tt
-  all_mapped P Q f (x ∷ xs) h = (f x h.0, all_mapped P Q f xs h.1)
-
   -- items that ascend, about one of them
   pub around : (cmp : X → X → Ordering) (front rest : List X) (x : X) → AreAscending cmp (front ++ x ∷ rest) →
       AllByRecursion (λ y. cmp y x ≡ Less) front × AllByRecursion (λ y. cmp x y ≡ Less) rest
@@ -145,7 +137,7 @@ module _ (bound : Bound) (told_key : List ℕ → Image → Image) (keeps : Keep
           let last_less : R last.last.0 k ≡ Less = last_is ∙ greater_turned o k key.key e in
           let front : list_any (λ r. is_eq (R r.0 k)) last.front ≡ false =
           all_none (λ r. is_eq (R r.0 k)) last.front
-          (all_mapped (λ r. R r.0 last.last.0 ≡ Less) (λ r. is_eq (R r.0 k) ≡ false)
+          (all_weaker (λ r. R r.0 last.last.0 ≡ Less) (λ r. is_eq (R r.0 k) ≡ false)
           (λ r h. ap is_eq (o.trans r.0 last.last.0 k h last_less)) last.front ordered.0) in
           ap (list_any (λ r. is_eq (R r.0 k))) last.are ∙ list_any-append (λ r. is_eq (R r.0 k)) last.front (last.last ∷ [])
           ∙ or_from (list_any (λ r. is_eq (R r.0 k)) last.front) (is_eq (R last.last.0 k) || false) front
@@ -163,7 +155,7 @@ module _ (bound : Bound) (told_key : List ℕ → Image → Image) (keeps : Keep
       none_left_upto : is_gt (R k key.key) ≡ false → list_any (λ r. is_eq (R r.0 k)) rest ≡ false
       none_left_upto up =
           all_none (λ r. is_eq (R r.0 k)) rest
-          (all_mapped (λ r. R last.last.0 r.0 ≡ Less) (λ r. is_eq (R r.0 k) ≡ false) (λ r h. upto_turned (R k key.key) refl up r.0 h) rest ordered.1)
+          (all_weaker (λ r. R last.last.0 r.0 ≡ Less) (λ r. is_eq (R r.0 k) ≡ false) (λ r h. upto_turned (R k key.key) refl up r.0 h) rest ordered.1)
 
       -- what is behind the last row of the chunk is behind the last row before it
       later_in : (last : LastKey) (r : Ordering) → is_after_in bound last table key.key r ≡ true → R k key.key ≡ Greater → is_after_in bound last table k r ≡ true

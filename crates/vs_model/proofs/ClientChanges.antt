@@ -10,7 +10,7 @@ use Rattle.std.proofs.lemmas.Bool.{or_parts}
 use Rattle.std.proofs.lemmas.List.Sums.{fold-append}
 use Rattle.vs_base.specs.declared.Change.{Change}
 use Rattle.vs_model.specs.Logs.{Image}
-use Rattle.vs_model.specs.Copy.{Bound, has_key, kept_if, row_after, row_at, with_images, picked_change}
+use Rattle.vs_model.specs.Copy.{Bound, has_key, kept_if, row_after, row_at, picked_change}
 use Rattle.vs_model.specs.Copies.{KeepsKeys, ChangesFit, client_after, has_told_key}
 use Rattle.vs_model.proofs.Keys.{equal_from, row_at-alike, row_has_key}
 use Rattle.vs_model.proofs.Client.{cond_same, same_table, its_table}

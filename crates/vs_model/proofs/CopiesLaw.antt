@@ -1,5 +1,5 @@
 -- A client that applies the frames of a shard from the beginning of its copy has the picked rows, as far as the copy has come.
-use Rattle.std.proofs.Common.{◌≡◌, ℕ, Bool, true, false, cond, List, [], ◌∷◌, ◌++◌, append_assoc, append-nil, Option, Some, None, Contains, IsTrue, is_some, flat_map, refl, ap, sym, ◌∙◌, subst, ⊎_elim, true≢false}
+use Rattle.std.proofs.Common.{◌≡◌, ℕ, true, false, List, [], ◌∷◌, ◌++◌, append_assoc, append-nil, Option, Some, None, Contains, IsTrue, is_some, flat_map, refl, ap, sym, ◌∙◌, subst, ⊎_elim, true≢false}
 use Rattle.std.specs.List.{AllByRecursion}
 use Rattle.std.proofs.lemmas.Bool.{cases_Bool, cond-true, cond-false}
 use Rattle.std.proofs.lemmas.List.Elements.{filter-append}
@@ -18,8 +18,8 @@ use Rattle.vs_model.specs.Steps.{Step, Steps}
 use Rattle.vs_model.specs.Reached.{start_of}
 use Rattle.vs_model.specs.Copies.{IsOrdered, KeepsKeys, ChangesFit, told_in, client_row, copied_row}
 use Rattle.vs_model.proofs.Lists.{same_some, some_is_not_none}
-use Rattle.vs_model.proofs.Places.{place_of-switched, place_of-switched_out, same_names_stand}
-use Rattle.vs_model.proofs.Runs.{legal_is_steps}
+use Rattle.vs_model.proofs.Places.{place_of-switched, place_of-switched_out}
+use Rattle.vs_model.proofs.Runs.{first_along, legal_is_steps}
 use Rattle.vs_model.proofs.CopyFronts.{front-sent}
 use Rattle.vs_model.proofs.CopyFrames.{CopyAt, streamed, copy_sent, flat_map-append, fits_nothing}
 
@@ -105,16 +105,12 @@ module _ (cluster : Cluster) (rules : Filter) (distinct : LogsAreDistinct cluste
   step_has v AllCopied cs step has stays = goes_on v AllCopied step cs has stays step.lawful.vector has.place has.there has.at
   step_has v (Beat now) cs step has stays = goes_on v (Beat now) step cs has stays step.lawful.vector has.place has.there has.at
 
-  first_stands : (v : Vector) (fs : List Frame) → AllByRecursion (λ x. IsTrue (stands x s)) (vectors_along v fs) → IsTrue (stands v s)
-  first_stands v [] h = h.0
-  first_stands v (f ∷ fs) h = h.0
-
   steps_have : (fs : List Frame) (v : Vector) (cs : List Change) → Steps cluster rules v fs → Has v cs →
       AllByRecursion (λ x. IsTrue (stands x s)) (vectors_along v fs) → Has (last_vector v fs) (cs ++ told_by fs)
   unfolding told_by
   steps_have [] v cs steps has stand = subst (Has v) (sym (append-nil cs)) has
   steps_have (f ∷ fs) v cs steps has stand =
-      let on = step_has v f cs steps.0 has (first_stands (vector_after v f) fs stand.1) in
+      let on = step_has v f cs steps.0 has (first_along (λ x. IsTrue (stands x s)) (vector_after v f) fs stand.1) in
       let all = steps_have fs (vector_after v f) (cs ++ told_by (f ∷ [])) steps.1 on stand.1 in
       subst (Has (last_vector (vector_after v f) fs))
       (append_assoc cs (told_by (f ∷ [])) (told_by fs)

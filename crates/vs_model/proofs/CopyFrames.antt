@@ -1,12 +1,11 @@
 -- Each frame of a copy leaves the client with what it is to have.
-use Rattle.std.proofs.Common.{◌≡◌, ◌≢◌, ◌⊎◌, inl, inr, ⊎_elim, ℕ, Bool, true, false, not, cond, ◌||◌, List, [], ◌∷◌, ◌++◌, append_assoc, append-nil, map, take, drop, take-append-drop, Option, Some, None, IfSome, Contains, is_some, fold, filter, filter_map, flat_map, option_and_then, if◌then◌else◌, refl, ap, sym, ◌∙◌, subst, true≢false}
-use Rattle.std.specs.List.{list_any, cons_option, last_or, AllByRecursion, AllZip}
-use Rattle.std.specs.Ordering.{is_eq, is_gt, nat_cmp}
-use Rattle.std.specs.Cmp.{IsTotalOrder, Equal-is}
+use Rattle.std.proofs.Common.{◌≡◌, ◌≢◌, ◌⊎◌, inl, inr, ℕ, Bool, true, false, not, cond, ◌||◌, List, [], ◌∷◌, ◌++◌, append_assoc, append-nil, map, take, drop, take-append-drop, Option, Some, None, Contains, fold, filter_map, flat_map, refl, ap, sym, ◌∙◌, subst, true≢false}
+use Rattle.std.specs.List.{list_any, last_or, AllByRecursion, AllZip}
+use Rattle.std.specs.Ordering.{is_eq, nat_cmp}
 use Rattle.std.specs.Cmp.Lexicographic.{slice_cmp}
 use Rattle.std.specs.declared.cmp.Ordering.{Ordering}
 use Rattle.std.specs.declared.cmp.Ordering.TheVariants.{Less, Equal, Greater}
-use Rattle.std.proofs.lemmas.Bool.{cases_Bool, or_left}
+use Rattle.std.proofs.lemmas.Bool.{or_left}
 use Rattle.std.proofs.lemmas.Cmp.{alike_right, tied_back, tied_itself}
 use Rattle.std.proofs.lemmas.List.Sums.{fold-append}
 use Rattle.std.proofs.lemmas.List.Elements.{Contains-append_left, Contains-append_right, Contains-push, All-contains, All-from_recursion, filter_map-append}
@@ -22,19 +21,20 @@ use Rattle.vs_base.proofs.NameLemmas.{same_gtid-refl}
 use Rattle.vs_gtid.specs.Positions.{has}
 use Rattle.vs_model.specs.Names.{Position, same_gtid}
 use Rattle.vs_model.specs.Logs.{Image, Log, HaveDistinctGtids, IsPositionAfter, due, between, is_gtid_of}
-use Rattle.vs_model.specs.Vectors.{Vector, Place}
+use Rattle.vs_model.specs.Vectors.{Place}
 use Rattle.vs_model.specs.Vectors.Place.{Fresh, Copying, Streaming}
 use Rattle.vs_model.specs.Frames.{Frame, frames_of}
 use Rattle.vs_model.specs.Frames.Frame.{Tx, Switch, Halt, Chunk, CopyDone, AllCopied, Beat}
-use Rattle.vs_model.specs.Copy.{Bound, front, changes_of, changes_in, is_after, is_after_in, last_of, next_rows, picked, picked_work, picked_change, restricted, work_within, change_within, image_within, ReadTo, CopyStep, IsChunk, IsCopyDone, IsCopiedTx, row_at, chunk_of}
+use Rattle.vs_model.specs.Copy.{Bound, changes_of, changes_in, is_after, is_after_in, last_of, next_rows, picked_work, picked_change, work_within, change_within, image_within, ReadTo, CopyStep, IsChunk, IsCopyDone, IsCopiedTx, chunk_of}
 use Rattle.vs_model.specs.Legal.{Sends, IsTxOf}
 use Rattle.vs_model.specs.Reached.{start_of}
-use Rattle.vs_model.specs.Copies.{AreAscending, IsOrdered, KeepsKeys, ChangesFit, told_in, client_after, is_copied, picked_row_at, copied_row}
-use Rattle.vs_model.proofs.Lists.{cons_is_not_nil, same_some, some_is_not_none}
+use Rattle.vs_model.specs.Copies.{AreAscending, IsOrdered, KeepsKeys, ChangesFit, told_in, client_after, picked_row_at, copied_row}
+use Rattle.vs_model.proofs.Lists.{cons_is_not_nil, same_some}
 use Rattle.vs_model.proofs.Entries.{due_twice, grown_twice}
+use Rattle.vs_model.proofs.Each.{all_append, all_of_two, all_weaker}
 use Rattle.vs_model.proofs.Keys.{less_turned, greater_turned, greater_twice}
 use Rattle.vs_model.proofs.CopyRows.{rows_left, left_found, left_after, after-alike, chunk_front, FirstLeft, first_left, none_left_in}
-use Rattle.vs_model.proofs.Client.{tables_total, around, all_mapped, told_rows, other_rows, chunk_told, last_row}
+use Rattle.vs_model.proofs.Client.{tables_total, around, told_rows, other_rows, chunk_told, last_row}
 use Rattle.vs_model.proofs.ClientChanges.{cut_image, cut, changes_told}
 use Rattle.vs_model.proofs.CopyFronts.{front-sent}
 use Rattle.vs_model.proofs.CoreRuns.{not_nil}
@@ -247,9 +247,9 @@ module _ (bound : Bound) where
         by false e row f = refl
         by true e None f = refl
         by true e (Some row) f = absurd (true≢false (sym (
-          sym (ap (list_any (λ r. is_eq (bound.order table r.0 key))) none)
-          ∙ left_found bound table (ordered.keys table picked_table) changes l key row e f
-        )))
+            sym (ap (list_any (λ r. is_eq (bound.order table r.0 key))) none)
+            ∙ left_found bound table (ordered.keys table picked_table) changes l key row e f
+            )))
 
     -- the end of a copy
     pub copy_ends : (old new : Place) (time : ℕ) (cs : List Change) → CopyAt old cs → IsCopyDone bound s log old time (Some new) → CopyAt new (cs ++ [])
@@ -274,24 +274,18 @@ module _ (bound : Bound) where
     Stands changes l table t =
         ((slice_cmp nat_cmp t table ≡ Less) × (rows_left bound changes l t ≡ [])) ⊎ ((t ≡ table) ⊎ (slice_cmp nat_cmp t table ≡ Greater))
 
-    both_all : (P Q S : List ℕ → Type 0) → ((t : List ℕ) → P t → Q t → S t) → (ts : List (List ℕ)) → AllByRecursion P ts → AllByRecursion Q ts → AllByRecursion S ts
-    both_all P Q S f [] h k = tt
-    both_all P Q S f (t ∷ ts) h k = (f t h.0 k.0, both_all P Q S f ts h.1 k.1)
-
-    all_together : (P : List ℕ → Type 0) (xs ys : List (List ℕ)) → AllByRecursion P xs → AllByRecursion P ys → AllByRecursion P (xs ++ ys)
-    all_together P [] ys h k = k
-    all_together P (x ∷ xs) ys h k = (h.0, all_together P xs ys h.1 k)
-
     tables_stand : (changes : List Change) (l : Option LastKey) (table : List ℕ) (rows : List (Image × Image)) → FirstLeft bound changes l bound.tables table rows →
         AllByRecursion (Stands changes l table) bound.tables
     tables_stand changes l table rows first =
         let sides = around (slice_cmp nat_cmp) first.before first.behind table (subst (AreAscending (slice_cmp nat_cmp)) first.at ordered.tables) in
         subst (AllByRecursion (Stands changes l table)) (sym first.at)
-        (all_together (Stands changes l table) first.before (table ∷ first.behind)
-        (both_all (λ t. slice_cmp nat_cmp t table ≡ Less) (λ t. rows_left bound changes l t ≡ []) (Stands changes l table) (λ t less none. inl (less, none))
-        first.before sides.0 first.none_before)
-        (inr (inl refl), all_mapped (λ t. slice_cmp nat_cmp table t ≡ Less) (Stands changes l table) (λ t less. inr (inr (less_turned tables_total table t less)))
-        first.behind sides.1))
+        (all_append (Stands changes l table) first.before (table ∷ first.behind)
+        (all_of_two (λ t. slice_cmp nat_cmp t table ≡ Less) (λ t. rows_left bound changes l t ≡ []) (Stands changes l table) (λ t less none. inl (less, none))
+        first.before sides.0 first.none_before) (
+          inr (inl refl),
+          all_weaker (λ t. slice_cmp nat_cmp table t ≡ Less) (Stands changes l table) (λ t less. inr (inr (less_turned tables_total table t less)))
+              first.behind sides.1,
+        ))
 
     -- the tables behind that of a chunk have still nothing
     some_row : {X : Type 0} (P : X → Type 0) (xs : List X) → xs ≢ [] → AllByRecursion P xs → (x : X) × P x

@@ -1,8 +1,7 @@
 -- A copy's position has the first entries of its log, and no others.
-use Rattle.std.proofs.Common.{◌≡◌, ◌||◌, Bool, true, false, not, cond, List, [], ◌∷◌, ◌++◌, Option, Some, None, is_some, filter, take_while, refl, ap, sym, ◌∙◌, subst, true≢false}
+use Rattle.std.proofs.Common.{◌≡◌, Bool, true, false, cond, List, [], ◌∷◌, ◌++◌, Option, Some, None, is_some, take_while, refl, ap, sym, ◌∙◌, subst}
 use Rattle.std.specs.List.{list_any, AllByRecursion}
 use Rattle.std.proofs.lemmas.Bool.{or_parts, or_from}
-use Rattle.std.proofs.lemmas.List.Elements.{filter_agree}
 use Rattle.std.proofs.lemmas.List.Sums.{take_while-cons}
 use Rattle.vs_base.specs.declared.ShardName.{ShardName}
 use Rattle.vs_gtid.specs.declared.JournalValue.{JournalValue}
@@ -13,7 +12,7 @@ use Rattle.vs_model.specs.Logs.{Log, HaveDistinctGtids, IsPositionAfter, after, 
 use Rattle.vs_model.specs.Copy.{front}
 use Rattle.vs_model.proofs.Lists.{cons_is_not_nil, same_head, same_tail, filter_all}
 use Rattle.vs_model.proofs.Sent.{gtids_of_all}
-use Rattle.vs_model.proofs.Client.{all_mapped}
+use Rattle.vs_model.proofs.Each.{all_weaker}
 
 -- entries of which these are the first
 abbrev Begins : List Entry → List Entry → Type 0
@@ -77,6 +76,6 @@ module _ (s : ShardName) (log : Log) (q : Position) (sent rest : List Entry) (di
       let begins = own_front s sent log.entries rest (sym (ap (up_to_own s) (all_after log)) ∙ split) in
       ap (take_while (λ e. has q e.gtid)) begins.1
       ∙ taken_while (λ e. has q e.gtid) sent begins.0
-      (all_mapped (λ e. is_gtid_of sent e.gtid ≡ true) (λ e. has q e.gtid ≡ true) (λ e h. has_of true e h) sent (gtids_of_all sent))
-      (all_mapped (λ e. is_gtid_of sent e.gtid ≡ false) (λ e. has q e.gtid ≡ false) (λ e h. has_of false e h) begins.0
+      (all_weaker (λ e. is_gtid_of sent e.gtid ≡ true) (λ e. has q e.gtid ≡ true) (λ e h. has_of true e h) sent (gtids_of_all sent))
+      (all_weaker (λ e. is_gtid_of sent e.gtid ≡ false) (λ e. has q e.gtid ≡ false) (λ e h. has_of false e h) begins.0
       (tail_apart sent begins.0 (subst HaveDistinctGtids begins.1 distinct)))

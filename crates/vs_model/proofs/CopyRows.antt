@@ -1,50 +1,27 @@
 -- The rows that a copy has still to send, and the first of them that it sends.
-use Rattle.std.proofs.Common.{◌≡◌, ◌≢◌, ◌⊎◌, inl, inr, ⊎_elim, ℕ, zero, suc, ◌+◌, Bool, true, false, not, cond, ◌||◌, List, [], ◌∷◌, ◌++◌, map, length, Option, Some, None, is_some, filter, filter_map, find, nat_le, option_map, option_and_then, if◌then◌else◌, refl, ap, sym, ◌∙◌, subst, true≢false, arith}
-use Rattle.std.specs.List.{list_any, cons_option, last_or, AllByRecursion}
+use Rattle.std.proofs.Common.{◌≡◌, ◌≢◌, ◌⊎◌, inl, inr, ⊎_elim, ℕ, zero, suc, ◌+◌, Bool, true, false, cond, ◌||◌, List, [], ◌∷◌, ◌++◌, map, length, Option, Some, None, filter, filter_map, find, nat_le, option_map, option_and_then, if◌then◌else◌, refl, ap, sym, ◌∙◌, subst, arith}
+use Rattle.std.specs.List.{list_any, cons_option, AllByRecursion}
 use Rattle.std.specs.Ordering.{is_eq, is_gt, nat_cmp}
 use Rattle.std.specs.Cmp.{IsTotalOrder}
 use Rattle.std.specs.Cmp.Lexicographic.{slice_cmp}
 use Rattle.std.specs.declared.cmp.Ordering.{Ordering}
 use Rattle.std.specs.declared.cmp.Ordering.TheVariants.{Less, Equal, Greater}
-use Rattle.std.proofs.lemmas.Bool.{cases_Bool, cond-true, cond-false, or_left, or_right, le-leb}
+use Rattle.std.proofs.lemmas.Bool.{cases_Bool, or_left, or_right, le-leb}
 use Rattle.vs_base.specs.Cells.{row_size}
 use Rattle.vs_base.specs.declared.Change.{Change}
 use Rattle.vs_base.specs.declared.LastKey.{LastKey}
 use Rattle.vs_model.specs.Logs.{Image}
-use Rattle.vs_model.specs.Copy.{Bound, row_at, keys_of, picked_rows, is_after, is_after_in, within_limits, chunk_of, next_rows}
+use Rattle.vs_model.specs.Copy.{Bound, row_at, keys_of, picked_rows, is_after, is_after_in, within_limits, chunk_of}
 use Rattle.vs_model.specs.Copies.{AreAscending, picked_row_at}
 use Rattle.vs_model.proofs.Lists.{cons_is_not_nil, same_some, some_is_not_none}
-use Rattle.vs_model.proofs.Keys.{less_turned, greater_turned, greater_twice, equal_from, row_at-alike, key_found, keys_ascend}
+use Rattle.vs_model.proofs.Each.{kept_either, all_filtered, all_pass, any_filtered}
+use Rattle.vs_model.proofs.Keys.{equal_from, row_at-alike, key_found, keys_ascend}
 
 module _ {X : Type 0} where
-  kept_either : (P : List X → Type 0) (t : X → Bool) (x : X) (xs : List X) → (t x ≡ true → P (x ∷ filter t xs)) → (t x ≡ false → P (filter t xs)) →
-      P (filter t (x ∷ xs))
-  kept_either P t x xs stays goes = ⊎_elim
-      (λ e. subst P (sym (cond-true (t x) (x ∷ filter t xs) (filter t xs) e)) (stays e))
-      (λ e. subst P (sym (cond-false (t x) (x ∷ filter t xs) (filter t xs) e)) (goes e))
-      (cases_Bool (t x))
-
-  pub all_pass : (t : X → Bool) (xs : List X) → AllByRecursion (λ x. t x ≡ true) (filter t xs)
-  all_pass t [] = tt
-  all_pass t (x ∷ xs) = kept_either (AllByRecursion (λ y. t y ≡ true)) t x xs (λ e. (e, all_pass t xs)) (λ e. all_pass t xs)
-
-  pub filter_all_of : (P : X → Type 0) (t : X → Bool) (xs : List X) → AllByRecursion P xs → AllByRecursion P (filter t xs)
-  filter_all_of P t [] h = tt
-  filter_all_of P t (x ∷ xs) h = kept_either (AllByRecursion P) t x xs (λ e. (h.0, filter_all_of P t xs h.1)) (λ e. filter_all_of P t xs h.1)
-
   pub filter_ascends : (cmp : X → X → Ordering) (t : X → Bool) (xs : List X) → AreAscending cmp xs → AreAscending cmp (filter t xs)
   filter_ascends cmp t [] h = tt
   filter_ascends cmp t (x ∷ xs) h =
-      kept_either (AreAscending cmp) t x xs (λ e. (filter_all_of (λ y. cmp x y ≡ Less) t xs h.0, filter_ascends cmp t xs h.1)) (λ e. filter_ascends cmp t xs h.1)
-
-  -- a test that implies another finds what it found among those that the other keeps
-  pub any_filtered : (t u : X → Bool) (xs : List X) → ((x : X) → t x ≡ true → u x ≡ true) → list_any t xs ≡ true → list_any t (filter u xs) ≡ true
-  any_filtered t u [] h any = any
-  any_filtered t u (x ∷ xs) h any = ⊎_elim
-      (λ e. subst (λ l. list_any t l ≡ true) (sym (cond-true (u x) (x ∷ filter u xs) (filter u xs) (h x e))) (or_left (t x) (list_any t (filter u xs)) e))
-      (λ e. let rest = any_filtered t u xs h (sym (ap (λ b. b || list_any t xs) e) ∙ any) in
-      kept_either (λ l. list_any t l ≡ true) u x xs (λ f. or_right (t x) (list_any t (filter u xs)) rest) (λ f. rest))
-      (cases_Bool (t x))
+      kept_either (AreAscending cmp) t x xs (λ e. (all_filtered (λ y. cmp x y ≡ Less) t xs h.0, filter_ascends cmp t xs h.1)) (λ e. filter_ascends cmp t xs h.1)
 
 -- the picked rows of a table behind the last row that was sent
 abbrev pub rows_left : Bound → List Change → Option LastKey → List ℕ → List (Image × Image)
@@ -126,7 +103,7 @@ module _ (bound : Bound) (table : List ℕ) (o : IsTotalOrder (bound.order table
 
   module _ (l : Option LastKey) where
     pub left_picked : AllByRecursion IsPickedRow (left_rows l)
-    left_picked = filter_all_of IsPickedRow (λ row. is_after bound l table row.0) (picked_rows bound changes table) (are_picked (keys_of bound changes table))
+    left_picked = all_filtered IsPickedRow (λ row. is_after bound l table row.0) (picked_rows bound changes table) (are_picked (keys_of bound changes table))
 
     pub left_after : AllByRecursion (λ row. is_after bound l table row.0 ≡ true) (left_rows l)
     left_after = all_pass (λ row. is_after bound l table row.0) (picked_rows bound changes table)

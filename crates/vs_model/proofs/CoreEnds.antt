@@ -19,7 +19,8 @@ use Rattle.vs_model.specs.Core.CoreStep.{begins, takes, loses, handles, switches
 use Rattle.vs_model.specs.Core.CoreRun.{starts, goes_on}
 use Rattle.vs_model.proofs.Places.{place_of-moved, place_of-moved_other, place_of-switched, streams_or_copies}
 use Rattle.vs_model.proofs.Runs.{last_vector-append}
-use Rattle.vs_model.proofs.Gate.{after_piece, all_append}
+use Rattle.vs_model.proofs.Each.{all_append}
+use Rattle.vs_model.proofs.Gate.{after_piece}
 use Rattle.vs_model.proofs.CoreRuns.{Kept, lanes_before, run_kept, gathered}
 
 step_vector : (old : Core) (gs : List Frame) (new : Core) → CoreStep old gs new → last_vector old.vector gs ≡ new.vector

@@ -25,19 +25,19 @@ use Rattle.vs_model.proofs.CopyExamples.{below_nine, inserts, renames, copied, r
 use Rattle.vs_model.proofs.LaneExamples.{one_more, to_first}
 use Rattle.vs_model.proofs.CoreRuns.{run_legal}
 
-abbrev a : ShardName
+abbrev pub a : ShardName
 a = shard 1 80
 
-abbrev b : ShardName
+abbrev pub b : ShardName
 b = shard 2 0
 
-abbrev cluster : Cluster
+abbrev pub cluster : Cluster
 cluster = (a, resharded split) ∷ (b, copied) ∷ []
 
-abbrev rules : Filter
+abbrev pub rules : Filter
 rules = λ s. below_nine
 
-abbrev first : Vector
+abbrev pub first : Vector
 first = (a, Streaming []) ∷ (b, Fresh) ∷ []
 
 -- the rows 2, 3 and 5, which both entries left, and the end of the copy there
@@ -67,7 +67,7 @@ both_begun = record {
 abbrev all_taken : Core
 all_taken = record both_begun { lanes = lane_of_b [] (rows ∷ end ∷ []) ∷ lane_of_a [] (Transaction one ∷ []) ∷ [] }
 
-abbrev after_rows : Vector
+abbrev pub after_rows : Vector
 after_rows = (a, Streaming []) ∷ (b, Copying (up_to 1 2) (last_key 5)) ∷ []
 
 abbrev rows_sent : Core
@@ -78,7 +78,7 @@ rows_sent = record {
   all_copied = false;
 }
 
-abbrev after_one : Vector
+abbrev pub after_one : Vector
 after_one = (a, Streaming (up_to 1 1)) ∷ (b, Copying (up_to 1 2) (last_key 5)) ∷ []
 
 abbrev one_sent : Core
@@ -89,7 +89,7 @@ one_sent = record {
   all_copied = false;
 }
 
-abbrev after_copy : Vector
+abbrev pub after_copy : Vector
 after_copy = (a, Streaming (up_to 1 1)) ∷ (b, Streaming (up_to 1 2)) ∷ []
 
 abbrev copy_done : Core
@@ -232,7 +232,7 @@ switch_step = switches (record {
   is = refl;
 })
 
-abbrev frames : List Frame
+abbrev pub frames : List Frame
 frames =
     Chunk b (7 ∷ []) (row 2 ∷ row 3 ∷ row 5 ∷ []) 102 after_rows ∷ Tx a one after_one ∷ CopyDone b 102 after_copy ∷ AllCopied
     ∷ Switch split (switched after_copy split) ∷ []
@@ -298,13 +298,13 @@ lane_b = record {
   base = λ some g. refl;
 }
 
-distinct_logs : (x y : Bool) → HaveDistinctGtids (cond x (resharded split) (cond y copied no_log)).entries
+pub distinct_logs : (x y : Bool) → HaveDistinctGtids (cond x (resharded split) (cond y copied no_log)).entries
 unfolding same_gtid
 distinct_logs true y = (refl, (refl, (refl, tt)))
 distinct_logs false true = (refl, (refl, tt))
 distinct_logs false false = tt
 
-legal : Legal cluster rules first frames
+pub legal : Legal cluster rules first frames
 legal =
     run_legal cluster rules first (λ s. distinct_logs (same_name a s) (same_name b s)) (tt, (tt, tt)) frames last_core run
     (record { going_on = (lane_b, tt); over = (lane_a, tt) })

@@ -1,8 +1,7 @@
 -- All that the gate sends is lawful, where each of its lanes gave what its log lets it.
-use Rattle.std.proofs.Common.{◌≡◌, ◌≢◌, ◌||◌, Bool, true, false, not, List, [], ◌∷◌, ◌++◌, append-nil, append_assoc, Option, Some, None, IsTrue, is_some, filter, refl, ap, sym, ◌∙◌, subst, ⊎_elim, true≢false}
-use Rattle.std.specs.List.{list_any, last_or, AllByRecursion}
+use Rattle.std.proofs.Common.{◌≡◌, ◌≢◌, Bool, true, false, not, List, [], ◌∷◌, ◌++◌, append-nil, append_assoc, Option, Some, None, IsTrue, is_some, filter, refl, ap, sym, ◌∙◌, subst, ⊎_elim, true≢false}
+use Rattle.std.specs.List.{last_or, AllByRecursion}
 use Rattle.std.specs.Option.{option_map_or}
-use Rattle.std.proofs.lemmas.Bool.{cases_Bool, cond-true, cond-false, or_left, or_right}
 use Rattle.std.proofs.lemmas.List.Elements.{filter-append}
 use Rattle.vs_base.specs.declared.ShardName.{ShardName}
 use Rattle.vs_base.proofs.NameLemmas.{same_name-is}
@@ -20,12 +19,13 @@ use Rattle.vs_model.specs.Core.Piece.{Transaction, CopiedRows, CopyEnd}
 use Rattle.vs_model.specs.Core.CoreStep.{begins, takes, loses, handles, switches, halts, beats, copies_end}
 use Rattle.vs_model.specs.Core.CoreRun.{starts, goes_on}
 use Rattle.vs_model.proofs.Lists.{cons_is_not_nil, same_head, same_tail, same_some}
+use Rattle.vs_model.proofs.Each.{all_append, all_first, all_behind, all_inserted, all_of_both, any_by}
 use Rattle.vs_model.proofs.Places.{place_of-moved, place_of-moved_other, place_of-switched, stands-names}
 use Rattle.vs_model.proofs.OneStep.{step_switch, step_halt, step_beat, step_all_copied}
 use Rattle.vs_model.proofs.Runs.{last_vector-append, steps_are_legal}
 use Rattle.vs_model.proofs.Resumed.{stands_in, last_or-append, steps_both}
 use Rattle.vs_model.proofs.Given.{Leads, leads_on, given_before, given_led, base_led, at_journal}
-use Rattle.vs_model.proofs.Gate.{canonical_moved, canonical_switched, all_append, all_first, all_behind, all_inserted, after_piece, piece_step}
+use Rattle.vs_model.proofs.Gate.{canonical_moved, canonical_switched, after_piece, piece_step}
 use Rattle.vs_model.proofs.GateLanes.{LaneAt, Fit, lane_at, fit_without, fit_replaced, fit_filtered}
 
 module _ {X : Type 0} where
@@ -36,30 +36,6 @@ module _ {X : Type 0} where
   pub not_nil : (xs ys : List X) (x : X) → xs ++ x ∷ ys ≢ []
   not_nil [] ys x e = cons_is_not_nil _ _ e
   not_nil (y ∷ xs) ys x e = cons_is_not_nil _ _ e
-
-  both_kept : (P : X → Type 0) (b : Bool) (x : X) (xs : List X) (t : X → Bool) → t x ≡ b → AllByRecursion P (filter (λ y. not (t y)) (x ∷ xs)) →
-      AllByRecursion P (filter t (x ∷ xs)) → P x × AllByRecursion P (filter (λ y. not (t y)) xs) × AllByRecursion P (filter t xs)
-  both_kept P true x xs t e h k =
-      let in_it = subst (AllByRecursion P) (cond-true (t x) (x ∷ filter t xs) (filter t xs) e) k in
-      (in_it.0, subst (AllByRecursion P) (cond-false (not (t x)) (x ∷ filter (λ y. not (t y)) xs) (filter (λ y. not (t y)) xs) (ap not e)) h, in_it.1)
-  both_kept P false x xs t e h k =
-      let out_of_it = subst (AllByRecursion P) (cond-true (not (t x)) (x ∷ filter (λ y. not (t y)) xs) (filter (λ y. not (t y)) xs) (ap not e)) h in
-      (out_of_it.0, out_of_it.1, subst (AllByRecursion P) (cond-false (t x) (x ∷ filter t xs) (filter t xs) e) k)
-
-  -- what holds of all that pass a test, and of all that fail it, holds of all
-  pub all_of_both : (P : X → Type 0) (t : X → Bool) (xs : List X) → AllByRecursion P (filter (λ y. not (t y)) xs) → AllByRecursion P (filter t xs) →
-      AllByRecursion P xs
-  all_of_both P t [] h k = tt
-  all_of_both P t (x ∷ xs) h k =
-      let parts = both_kept P (t x) x xs t refl h k in
-      (parts.0, all_of_both P t xs parts.1 parts.2)
-
-  pub any_by : (t u : X → Bool) (xs : List X) → ((x : X) → t x ≡ true → u x ≡ true) → list_any t xs ≡ true → list_any u xs ≡ true
-  any_by t u [] h any = absurd (true≢false (sym any))
-  any_by t u (x ∷ xs) h any = ⊎_elim
-      (λ e. or_left (u x) (list_any u xs) (h x e))
-      (λ e. or_right (u x) (list_any u xs) (any_by t u xs h (sym (ap (λ b. b || list_any t xs) e) ∙ any)))
-      (cases_Bool (t x))
 
 -- where a shard copies, some shard does
 pub one_copies : (v : Vector) (s : ShardName) (place : Place) → Copies v s place → some_copies v ≡ true

@@ -1,5 +1,5 @@
 -- What each step of the gate keeps, where its lanes gave what their logs let them.
-use Rattle.std.proofs.Common.{◌≡◌, ◌||◌, Bool, true, false, not, cond, List, [], ◌∷◌, ◌++◌, map, Option, Some, IfSome, filter, refl, ap, sym, ◌∙◌, subst}
+use Rattle.std.proofs.Common.{◌≡◌, ◌||◌, true, false, not, List, [], ◌∷◌, map, Option, Some, IfSome, filter, refl, ap, sym, ◌∙◌, subst}
 use Rattle.std.specs.List.{AllByRecursion}
 use Rattle.vs_base.specs.declared.ShardName.{ShardName}
 use Rattle.vs_gtid.specs.declared.JournalValue.{JournalValue}
@@ -16,6 +16,7 @@ use Rattle.vs_model.specs.Legal.{NoParticipantStands, JournalFits}
 use Rattle.vs_model.specs.Steps.{Step}
 use Rattle.vs_model.specs.Core.{Piece, PlaceAfter, IsOfCopy, AreGiven, HasBase, IsNoStranger, frame_of}
 use Rattle.vs_model.specs.Core.Piece.{Transaction, CopiedRows, CopyEnd}
+use Rattle.vs_model.proofs.Each.{all_append, all_filtered}
 use Rattle.vs_model.proofs.Places.{moved_either}
 use Rattle.vs_model.proofs.OneStep.{step_tx, step_copy, journal_of-picked}
 use Rattle.vs_model.proofs.Given.{next_streamed, rows_not_streamed, end_not_streamed, same_place}
@@ -25,30 +26,6 @@ pub canonical_moved : (v : Vector) (s : ShardName) (place : Place) → IsCanonic
 canonical_moved [] s place all one = tt
 canonical_moved (slot ∷ v) s place all one =
     moved_either IsCanonicalVector v s place slot (λ e. (one, all.1)) (λ e. (all.0, canonical_moved v s place all.1 one))
-
-module _ {X : Type 0} (P : X → Type 0) where
-  pub all_append : (xs ys : List X) → AllByRecursion P xs → AllByRecursion P ys → AllByRecursion P (xs ++ ys)
-  all_append [] ys h k = k
-  all_append (x ∷ xs) ys h k = (h.0, all_append xs ys h.1 k)
-
-  pub all_first : (xs ys : List X) → AllByRecursion P (xs ++ ys) → AllByRecursion P xs
-  all_first [] ys h = tt
-  all_first (x ∷ xs) ys h = (h.0, all_first xs ys h.1)
-
-  pub all_behind : (xs ys : List X) → AllByRecursion P (xs ++ ys) → AllByRecursion P ys
-  all_behind [] ys h = h
-  all_behind (x ∷ xs) ys h = all_behind xs ys h.1
-
-  pub all_inserted : (xs ys : List X) (x : X) → P x → AllByRecursion P (xs ++ ys) → AllByRecursion P (xs ++ x ∷ ys)
-  all_inserted xs ys x p h = all_append xs (x ∷ ys) (all_first xs ys h) (p, all_behind xs ys h)
-
-  all_kept : (b : Bool) (x : X) (xs : List X) → P x → AllByRecursion P xs → AllByRecursion P (cond b (x ∷ xs) xs)
-  all_kept true x xs p h = (p, h)
-  all_kept false x xs p h = h
-
-  pub all_filtered : (t : X → Bool) (xs : List X) → AllByRecursion P xs → AllByRecursion P (filter t xs)
-  all_filtered t [] h = tt
-  all_filtered t (x ∷ xs) h = all_kept (t x) x (filter t xs) h.0 (all_filtered t xs h.1)
 
 canonical_successors : (ns : List Successor) → AllByRecursion (λ n. IsCanonical n.position) ns → IsCanonicalVector (map (λ n. (n.name, Streaming n.position)) ns)
 canonical_successors [] h = tt

@@ -1,19 +1,18 @@
 -- The keys of a table's rows: in order, each once, and none left out.
-use Rattle.std.proofs.Common.{◌≡◌, ◌⊎◌, inl, inr, ⊎_elim, ℕ, Bool, true, false, cond, ◌&&◌, ◌||◌, List, [], ◌∷◌, ◌++◌, Option, Some, None, is_some, fold, filter, filter_map, option_map, if◌then◌else◌, refl, ap, sym, ◌∙◌, subst, true≢false}
+use Rattle.std.proofs.Common.{◌≡◌, ◌⊎◌, inl, inr, ⊎_elim, ℕ, Bool, true, false, cond, ◌&&◌, ◌||◌, List, [], ◌∷◌, Option, Some, None, is_some, fold, filter, filter_map, option_map, if◌then◌else◌, refl, ap, sym, ◌∙◌, subst, true≢false}
 use Rattle.std.specs.List.{list_any, cons_option, AllByRecursion}
-use Rattle.std.specs.Ordering.{is_eq, is_gt, nat_cmp, ordering_reverse}
+use Rattle.std.specs.Ordering.{is_eq, nat_cmp, ordering_reverse}
 use Rattle.std.specs.Cmp.{IsTotalOrder, Equal-is}
 use Rattle.std.specs.Cmp.Lexicographic.{slice_cmp}
 use Rattle.std.specs.declared.cmp.Ordering.{Ordering}
 use Rattle.std.specs.declared.cmp.Ordering.TheVariants.{Less, Equal, Greater}
-use Rattle.std.proofs.lemmas.Bool.{cases_Bool, or_left, or_right}
+use Rattle.std.proofs.lemmas.Bool.{or_left, or_right}
 use Rattle.std.proofs.Math.Bool.{or-false}
 use Rattle.std.proofs.lemmas.Cmp.{alike_right}
 use Rattle.vs_base.specs.declared.Change.{Change}
 use Rattle.vs_model.specs.Logs.{Image}
 use Rattle.vs_model.specs.Copy.{Bound, has_key, kept_if, row_after, row_at, key_put, key_put_at, keys_of}
 use Rattle.vs_model.specs.Copies.{AreAscending}
-use Rattle.vs_model.proofs.Lists.{same_some}
 
 or_again : (a b : Bool) → (a || (a || b)) ≡ (a || b)
 or_again true b = refl

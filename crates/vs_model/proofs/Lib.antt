@@ -1,4 +1,5 @@
 mod Lists
+mod Each
 mod Entries
 mod Places
 mod Sent
@@ -25,3 +26,4 @@ mod ClientChanges
 mod CopyFronts
 mod CopyFrames
 mod CopiesLaw
+mod CopiesExamples

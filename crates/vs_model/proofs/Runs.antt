@@ -65,7 +65,7 @@ module _ (bound : Bound) (s : ShardName) (log : Log) (p q r : Position) (fs gs :
       (subst (λ l. AllZip (IsTxOf bound) l (one ++ two)) (sym both) zipped)
       (λ some. base_by (frames_of s fs) refl (λ none. some (both ∙ none))) grown
 
-first_along : (C : Vector → Type 0) (v : Vector) (fs : List Frame) → AllByRecursion C (vectors_along v fs) → C v
+pub first_along : (C : Vector → Type 0) (v : Vector) (fs : List Frame) → AllByRecursion C (vectors_along v fs) → C v
 first_along C v [] h = h.0
 first_along C v (f ∷ fs) h = h.0
 
