@@ -6,13 +6,13 @@
 mod tests;
 
 ghost use Rattle.std.specs.List.{AllByRecursion, Contains};
-ghost use Rattle.std.specs.Prelude.{[], ◌++◌, ◌∷◌, ◌≡◌, IsTrue, List, Some, false, ℕ};
+ghost use Rattle.std.specs.Prelude.{[], ◌++◌, ◌∷◌, ◌≡◌, IsTrue, List, None, Option, Some, false, ℕ};
 ghost use Rattle.vs_base.specs.declared.ShardName.{ShardName};
 ghost use Rattle.vs_gtid.specs.declared.Entry.{Entry};
 ghost use Rattle.vs_gtid.specs.declared.JournalValue.{JournalValue};
 ghost use Rattle.vs_model.specs.Copies.{ChangesFit, IsOrdered, KeepsKeys, client_row, copied_row};
 ghost use Rattle.vs_model.specs.Copy.{Bound, Filter, changes_in, front, picked};
-ghost use Rattle.vs_model.specs.Core.{AreLanes, Core, CoreRun, HasAllCopied};
+ghost use Rattle.vs_model.specs.Core.{AreGiven, AreLanes, Core, CoreRun, HasAllCopied, Piece, PlaceAfter};
 ghost use Rattle.vs_model.specs.Frames.Frame.{AllCopied, Beat, Halt, Switch, Tx};
 ghost use Rattle.vs_model.specs.Frames.{Frame, frames_of, last_vector, vectors_along};
 ghost use Rattle.vs_model.specs.Legal.{AllCopiedFollows, HasGathered, Legal, NoneCopies};
@@ -31,7 +31,7 @@ ghost use Rattle.vs_model.specs.Names.{Position};
 ghost use Rattle.vs_model.specs.Reached.{HasAllDue, IsFinal, IsSettled, StartsAreUnique, StartsToStream, start_of};
 ghost use Rattle.vs_model.specs.Steps.{AreFirstDue, SendsCopy, SendsTx, Step, Steps};
 ghost use Rattle.vs_model.specs.Vectors.Place.{Fresh};
-ghost use Rattle.vs_model.specs.Vectors.{Copies, IsCanonicalVector, Place, Vector, place_of, stands, switched};
+ghost use Rattle.vs_model.specs.Vectors.{Copies, IsCanonicalPlace, IsCanonicalVector, Place, Vector, place_of, stands, switched};
 
 /// Frames that follow one another by lawful steps are a legal list, and there is no other.
 pub fn law_steps()
@@ -82,7 +82,8 @@ pub fn law_due()
 
 /// Where a lane's first pieces were handled, the next one is the transaction of the first entry that
 /// is due. Where all were, and they were all that was due, nothing is due, and the journal ahead is
-/// the one that was ahead of the lane's start.
+/// the one that was ahead of the lane's start. Whether a lane streams or copies, its first pieces
+/// are what it may give, and behind its first piece the others are what a lane may give from there.
 pub fn law_lane()
     ensures next { (bound : Bound) (s : ShardName) (log : Log) (p q : Position) (handled waiting : List Entry) (told : Entry) →
         HaveDistinctGtids log.entries → AreFirstDue bound s log p (handled ++ told ∷ waiting) → IsPositionAfter p handled q →
@@ -90,6 +91,11 @@ pub fn law_lane()
     ensures end { (bound : Bound) (s : ShardName) (log : Log) (p q : Position) (handled : List Entry) → HaveDistinctGtids log.entries →
         (all : AreFirstDue bound s log p handled) → all.rest ≡ [] → IsPositionAfter p handled q →
         (due s log q ≡ []) × (stop s log q ≡ stop s log p) }
+    ensures front { (bound : Bound) (s : ShardName) (log : Log) (first more : List Piece) (last : Option JournalValue) (start : Place) →
+        AreGiven bound s log (first ++ more) last start → AreGiven bound s log first None start }
+    ensures rest { (bound : Bound) (s : ShardName) (log : Log) (piece : Piece) (pieces : List Piece) (last : Option JournalValue) (from to : Place) →
+        HaveDistinctGtids log.entries → AreGiven bound s log (piece ∷ pieces) last from → PlaceAfter from piece to → IsCanonicalPlace to →
+        AreGiven bound s log pieces last to }
 {}
 
 /// Whatever the order in which pieces are taken and handled, lanes are lost and begun again, and
