@@ -24,13 +24,13 @@ pub one_fits : (n : ℕ) → length (n ∷ []) ≤ 64
 one_fits n = omega arith
 
 -- keyspaces, shards and servers are numbered
-abbrev shard : ℕ → ℕ → ShardName
+abbrev pub shard : ℕ → ℕ → ShardName
 shard keyspace n = record { keyspace = keyspace ∷ []; shard = n ∷ []; keyspace_fits = one_fits keyspace; shard_fits = one_fits n }
 
 abbrev pub server : ℕ → List ℕ
 server n = 0 ∷ 0 ∷ 0 ∷ 0 ∷ 0 ∷ 0 ∷ 0 ∷ 0 ∷ 0 ∷ 0 ∷ 0 ∷ 0 ∷ 0 ∷ 0 ∷ 0 ∷ n ∷ []
 
-abbrev interval : ℕ → ℕ → ℕ → Interval
+abbrev pub interval : ℕ → ℕ → ℕ → Interval
 interval s a b = record { uuid = server s; first = a; last = b }
 
 abbrev pub up_to : ℕ → ℕ → Position
@@ -42,22 +42,22 @@ entry n p q work = record { gtid = record { uuid = server 1; number = n; first =
 abbrev pub log : List Entry → Log
 log entries = record { base = []; entries = entries; fault = None }
 
-abbrev journal : (ps : List ShardName) (ns : List Successor) → length ps ≤ 64 → length ns ≤ 64 → names_differ ps ≡ true →
+abbrev pub journal : (ps : List ShardName) (ns : List Successor) → length ps ≤ 64 → length ns ≤ 64 → names_differ ps ≡ true →
     names_differ (map (λ n. n.name) ns) ≡ true → JournalValue
 journal ps ns a b c d = record { id = pos 7; shards = true; participants = ps; successors = ns; few_participants = a; few_successors = b; participants_differ = c; successors_differ = d }
 
-halves_differ : names_differ (shard 1 40 ∷ shard 1 60 ∷ []) ≡ true
+pub halves_differ : names_differ (shard 1 40 ∷ shard 1 60 ∷ []) ≡ true
 unfolding same_name
 halves_differ = refl
 
 -- the shard 80 becomes 40 and 60
-abbrev split : JournalValue
+abbrev pub split : JournalValue
 split =
     let halves : List Successor = record { name = shard 1 40; position = up_to 2 1 } ∷ record { name = shard 1 60; position = up_to 3 1 } ∷ [] in
     journal (shard 1 80 ∷ []) halves (omega arith) (omega arith) refl halves_differ
 
 -- the shards 40 and 60 become 80
-abbrev merge : JournalValue
+abbrev pub merge : JournalValue
 merge =
     let whole : List Successor = record { name = shard 1 80; position = up_to 4 1 } ∷ [] in
     journal (shard 1 40 ∷ shard 1 60 ∷ []) whole (omega arith) (omega arith) halves_differ refl
@@ -70,16 +70,16 @@ unfolding same_name
 switches = (refl, refl)
 
 -- a statement, a journal and a statement
-abbrev one : Entry
+abbrev pub one : Entry
 one = entry 1 (omega arith) (omega arith) (Ddl [])
 
-abbrev two : JournalValue → Entry
+abbrev pub two : JournalValue → Entry
 two j = entry 2 (omega arith) (omega arith) (Journal j)
 
-abbrev three : Entry
+abbrev pub three : Entry
 three = entry 3 (omega arith) (omega arith) (Ddl [])
 
-abbrev resharded : JournalValue → Log
+abbrev pub resharded : JournalValue → Log
 resharded j = log (one ∷ two j ∷ three ∷ [])
 
 -- a participant stops at the journal, and to another shard it is due
@@ -108,22 +108,24 @@ asks : asked ((shard 1 80, log []) ∷ (shard 1 81, log []) ∷ (shard 2 1, log 
     ≡ (shard 3 1, FromEnd) ∷ (shard 1 80, From []) ∷ (shard 1 81, From []) ∷ []
 asks = refl
 
-server_bytes : (k : ℕ) → slice_index (server 1) k < 256
-server_bytes = within (server 1) (search arith)
+server_bytes : (s : ℕ) → s < 256 → (k : ℕ) → slice_index (server s) k < 256
+server_bytes s few =
+    let z : 0 < 256 = omega arith in
+    within (server s) (z, (z, (z, (z, (z, (z, (z, (z, (z, (z, (z, (z, (z, (z, (z, (few, tt))))))))))))))))
   where
     within : (xs : List ℕ) → AllByRecursion (λ b. b < 256) xs → (k : ℕ) → slice_index xs k < 256
     within [] h k = omega arith
     within (x ∷ xs) h zero = h.0
     within (x ∷ xs) h (suc k) = within xs h.1 k
 
-is_interval : (a b : ℕ) → 1 ≤ a → a ≤ b → b ≤ 2 ^ 63 - 2 → IsInterval (interval 1 a b)
-is_interval a b from ascends to = record { uuid = refl; bytes = server_bytes; first = from; ascends = ascends; last = to }
+pub is_interval : (s a b : ℕ) → s < 256 → 1 ≤ a → a ≤ b → b ≤ 2 ^ 63 - 2 → IsInterval (interval s a b)
+is_interval s a b few from ascends to = record { uuid = refl; bytes = server_bytes s few; first = from; ascends = ascends; last = to }
 
 -- intervals stand apart, and those that meet are spelled as one
 apart : IsCanonical (interval 1 1 2 ∷ interval 1 4 4 ∷ [])
 apart =
     let gap : 3 < 4 = omega arith in
-    (is_interval 1 2 (omega arith) (omega arith) (omega arith), inr (refl, gap), (is_interval 4 4 (omega arith) (omega arith) (omega arith), tt, tt))
+    (is_interval 1 1 2 (omega arith) (omega arith) (omega arith) (omega arith), inr (refl, gap), (is_interval 1 4 4 (omega arith) (omega arith) (omega arith) (omega arith), tt, tt))
 
 meeting : IsCanonical (interval 1 1 2 ∷ interval 1 3 4 ∷ []) → ⊥
 meeting h = ⊎_elim (λ less. true≢false (ap is_eq less)) (λ gap. let lt = gap.1 in omega arith) h.1

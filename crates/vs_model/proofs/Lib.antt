@@ -1,4 +1,5 @@
 mod Lists
+mod Each
 mod Entries
 mod Places
 mod Sent
@@ -10,3 +11,19 @@ mod Comes
 mod Stays
 mod Final
 mod CopyExamples
+mod Lanes
+mod LaneExamples
+mod Given
+mod Gate
+mod GateLanes
+mod CoreRuns
+mod CoreEnds
+mod CoreExamples
+mod Keys
+mod CopyRows
+mod Client
+mod ClientChanges
+mod CopyFronts
+mod CopyFrames
+mod CopiesLaw
+mod CopiesExamples

@@ -90,7 +90,7 @@ module _ (cluster : Cluster) (rules : Filter) (v : Vector) where
       sends = λ s p q from to. sends_still cluster rules v (switched v j) s p q (Switch j (switched v j) ∷ []) (stays s p q from to) refl from to;
     }
 
-journal_of-picked : (bound : Bound) (e : Entry) → journal_of (picked bound e).work ≡ journal_of e.work
+pub journal_of-picked : (bound : Bound) (e : Entry) → journal_of (picked bound e).work ≡ journal_of e.work
 journal_of-picked bound e = by_work e.work
   where
     by_work : (work : Work) → journal_of (picked_work bound work) ≡ journal_of work

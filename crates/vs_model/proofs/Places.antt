@@ -26,14 +26,14 @@ pub streams_or_copies : (v : Vector) (s : ShardName) (p : Position) (place : Pla
 streams_or_copies v s p place streams copies =
     true≢false (sym copies.1 ∙ ap is_copy (same_some place (Streaming p) (sym copies.0 ∙ streams)))
 
-at_name : (v : Vector) (s : ShardName) (slot : ShardName × Place) → same_name slot.0 s ≡ true → place_of (slot ∷ v) s ≡ Some slot.1
+pub at_name : (v : Vector) (s : ShardName) (slot : ShardName × Place) → same_name slot.0 s ≡ true → place_of (slot ∷ v) s ≡ Some slot.1
 at_name v s slot e = cond-true (same_name slot.0 s) (Some slot.1) (place_of v s) e
 
-past_name : (v : Vector) (s : ShardName) (slot : ShardName × Place) → same_name slot.0 s ≡ false → place_of (slot ∷ v) s ≡ place_of v s
+pub past_name : (v : Vector) (s : ShardName) (slot : ShardName × Place) → same_name slot.0 s ≡ false → place_of (slot ∷ v) s ≡ place_of v s
 past_name v s slot e = cond-false (same_name slot.0 s) (Some slot.1) (place_of v s) e
 
 -- whatever holds with and without the move at the first slot holds of the moved vector
-moved_either : (C : Vector → Type 0) (v : Vector) (s : ShardName) (place : Place) (slot : ShardName × Place) →
+pub moved_either : (C : Vector → Type 0) (v : Vector) (s : ShardName) (place : Place) (slot : ShardName × Place) →
     (same_name slot.0 s ≡ true → C ((slot.0, place) ∷ v)) → (same_name slot.0 s ≡ false → C (slot ∷ moved v s place)) → C (moved (slot ∷ v) s place)
 moved_either C v s place slot here there =
     ⊎_elim (λ e. subst C (sym (cond-true (same_name slot.0 s) _ _ e)) (here e))
@@ -60,7 +60,7 @@ names-moved [] s place = refl
 names-moved (slot ∷ v) s place =
     moved_either (λ w. names w ≡ slot.0 ∷ names v) v s place slot (λ e. refl) (λ e. ap (λ l. slot.0 ∷ l) (names-moved v s place))
 
-stands-names : (v : Vector) (s : ShardName) → stands v s ≡ list_any (λ n. same_name n s) (names v)
+pub stands-names : (v : Vector) (s : ShardName) → stands v s ≡ list_any (λ n. same_name n s) (names v)
 stands-names [] s = refl
 stands-names (slot ∷ v) s =
     ⊎_elim (λ e. ap is_some (at_name v s slot e) ∙ sym (or_left (same_name slot.0 s) (list_any (λ n. same_name n s) (names v)) e))

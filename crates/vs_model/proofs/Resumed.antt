@@ -14,7 +14,7 @@ use Rattle.vs_model.proofs.Runs.{steps_are_legal, legal_is_steps}
 
 module _ {X : Type 0} where
   -- where an item of two lists stands
-  abbrev StandsIn : List X → List X → List X → X → List X → Type 0
+  abbrev pub StandsIn : List X → List X → List X → X → List X → Type 0
   StandsIn xs ys before x behind =
       ((rest : List X) × (xs ≡ before ++ x ∷ rest)) ⊎ ((rest : List X) × (before ≡ xs ++ rest) × (ys ≡ rest ++ x ∷ behind))
 
@@ -23,13 +23,13 @@ module _ {X : Type 0} where
   behind_first a b xs ys before x behind same (inl h) = inl (h.0, ap (λ y. y ∷ xs) same ∙ ap (λ l. b ∷ l) h.1)
   behind_first a b xs ys before x behind same (inr h) = inr (h.0, ap (λ y. y ∷ before) (sym same) ∙ ap (λ l. a ∷ l) h.1, h.2)
 
-  stands_in : (xs ys before : List X) (x : X) (behind : List X) → xs ++ ys ≡ before ++ x ∷ behind → StandsIn xs ys before x behind
+  pub stands_in : (xs ys before : List X) (x : X) (behind : List X) → xs ++ ys ≡ before ++ x ∷ behind → StandsIn xs ys before x behind
   stands_in [] ys before x behind is = inr (before, refl, is)
   stands_in (a ∷ xs) ys [] x behind is = inl (xs, ap (λ y. y ∷ xs) (same_head _ _ _ _ is))
   stands_in (a ∷ xs) ys (b ∷ before) x behind is =
       behind_first a b xs ys before x behind (same_head _ _ _ _ is) (stands_in xs ys before x behind (same_tail _ _ _ _ is))
 
-  last_or-append : (o : Option X) (xs ys : List X) → last_or o (xs ++ ys) ≡ last_or (last_or o xs) ys
+  pub last_or-append : (o : Option X) (xs ys : List X) → last_or o (xs ++ ys) ≡ last_or (last_or o xs) ys
   last_or-append o [] ys = refl
   last_or-append o (x ∷ xs) ys = last_or-append (Some x) xs ys
 
@@ -47,7 +47,7 @@ follows_both fs gs in_first in_second before behind is = ⊎_elim
     (stands_in fs gs before AllCopied behind is)
 
 module _ (cluster : Cluster) (rules : Filter) where
-  steps_both : (fs gs : List Frame) (v : Vector) → Steps cluster rules v fs → Steps cluster rules (last_vector v fs) gs → Steps cluster rules v (fs ++ gs)
+  pub steps_both : (fs gs : List Frame) (v : Vector) → Steps cluster rules v fs → Steps cluster rules (last_vector v fs) gs → Steps cluster rules v (fs ++ gs)
   steps_both [] gs v first then = then
   steps_both (f ∷ fs) gs v first then = (first.0, steps_both fs gs (vector_after v f) first.1 then)
 

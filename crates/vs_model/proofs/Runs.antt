@@ -19,13 +19,13 @@ use Rattle.vs_model.proofs.Entries.{due_twice, grown_twice}
 use Rattle.vs_model.proofs.Sent.{between-sent, sends_from, sends_nothing}
 
 module _ {A B : Type 0} (R : A → B → Type 0) where
-  AllZip-append : (xs : List A) (ys : List B) (us : List A) (vs : List B) → AllZip R xs ys → AllZip R us vs → AllZip R (xs ++ us) (ys ++ vs)
+  pub AllZip-append : (xs : List A) (ys : List B) (us : List A) (vs : List B) → AllZip R xs ys → AllZip R us vs → AllZip R (xs ++ us) (ys ++ vs)
   AllZip-append [] [] us vs h k = k
   AllZip-append [] (y ∷ ys) us vs h k = absurd h
   AllZip-append (x ∷ xs) [] us vs h k = absurd h
   AllZip-append (x ∷ xs) (y ∷ ys) us vs h k = (h.0, AllZip-append xs ys us vs h.1 k)
 
-  AllZip-nil : (ys : List B) → AllZip R [] ys → ys ≡ []
+  pub AllZip-nil : (ys : List B) → AllZip R [] ys → ys ≡ []
   AllZip-nil [] h = refl
   AllZip-nil (y ∷ ys) h = absurd h
 
@@ -65,7 +65,7 @@ module _ (bound : Bound) (s : ShardName) (log : Log) (p q r : Position) (fs gs :
       (subst (λ l. AllZip (IsTxOf bound) l (one ++ two)) (sym both) zipped)
       (λ some. base_by (frames_of s fs) refl (λ none. some (both ∙ none))) grown
 
-first_along : (C : Vector → Type 0) (v : Vector) (fs : List Frame) → AllByRecursion C (vectors_along v fs) → C v
+pub first_along : (C : Vector → Type 0) (v : Vector) (fs : List Frame) → AllByRecursion C (vectors_along v fs) → C v
 first_along C v [] h = h.0
 first_along C v (f ∷ fs) h = h.0
 

@@ -12,6 +12,7 @@ use Rattle.vs_model.specs.Logs.{Log, HaveDistinctGtids, IsPositionAfter, after, 
 use Rattle.vs_model.specs.Frames.{Frame, frames_of}
 use Rattle.vs_model.specs.Copy.{Bound}
 use Rattle.vs_model.specs.Legal.{IsTxOf, Sends}
+use Rattle.vs_model.proofs.Each.{all_weaker}
 use Rattle.vs_model.proofs.Entries.{due-sent}
 
 module _ {X : Type 0} where
@@ -38,10 +39,6 @@ module _ {X : Type 0} where
   filter_passed t (x ∷ xs) h =
       ap (λ b. cond b (x ∷ filter t xs) (filter t xs)) h.0 ∙ ap (λ l. x ∷ l) (filter_passed t xs h.1)
 
-  pub all_weaker : (P Q : X → Type 0) → ((x : X) → P x → Q x) → (xs : List X) → AllByRecursion P xs → AllByRecursion Q xs
-  all_weaker P Q f [] h = tt
-  all_weaker P Q f (x ∷ xs) h = (f x h.0, all_weaker P Q f xs h.1)
-
 none_up_to_own : (t : Entry → Bool) (s : ShardName) (es : List Entry) → list_any t es ≡ false → list_any t (up_to_own s es) ≡ false
 none_up_to_own t s [] h = refl
 none_up_to_own t s (e ∷ es) h =
@@ -54,7 +51,7 @@ due_lacked s log p =
     filter_none (λ e. has p e.gtid) (due s log p)
     (none_up_to_own (λ e. has p e.gtid) s (after log p) (none_refused (λ e. has p e.gtid) log.entries))
 
-gtids_of_all : (es : List Entry) → AllByRecursion (λ e. is_gtid_of es e.gtid ≡ true) es
+pub gtids_of_all : (es : List Entry) → AllByRecursion (λ e. is_gtid_of es e.gtid ≡ true) es
 gtids_of_all [] = tt
 gtids_of_all (e ∷ es) = (
   or_left (same_gtid e.gtid e.gtid) (is_gtid_of es e.gtid) (same_gtid-refl e.gtid),

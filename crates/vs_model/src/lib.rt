@@ -5,19 +5,33 @@
 #[cfg(test)]
 mod tests;
 
-ghost use Rattle.std.specs.Prelude.{◌≡◌, ◌++◌, List, ℕ};
+ghost use Rattle.std.specs.List.{AllByRecursion, Contains};
+ghost use Rattle.std.specs.Prelude.{[], ◌++◌, ◌∷◌, ◌≡◌, IsTrue, List, None, Option, Some, false, ℕ};
 ghost use Rattle.vs_base.specs.declared.ShardName.{ShardName};
 ghost use Rattle.vs_gtid.specs.declared.Entry.{Entry};
 ghost use Rattle.vs_gtid.specs.declared.JournalValue.{JournalValue};
-ghost use Rattle.vs_model.specs.Copy.{Filter};
+ghost use Rattle.vs_model.specs.Copies.{ChangesFit, IsOrdered, KeepsKeys, client_row, copied_row};
+ghost use Rattle.vs_model.specs.Copy.{Bound, Filter, changes_in, front, picked};
+ghost use Rattle.vs_model.specs.Core.{AreGiven, AreLanes, Core, CoreRun, HasAllCopied, Piece, PlaceAfter};
 ghost use Rattle.vs_model.specs.Frames.Frame.{AllCopied, Beat, Halt, Switch, Tx};
-ghost use Rattle.vs_model.specs.Frames.{Frame, last_vector};
+ghost use Rattle.vs_model.specs.Frames.{Frame, frames_of, last_vector, vectors_along};
 ghost use Rattle.vs_model.specs.Legal.{AllCopiedFollows, HasGathered, Legal, NoneCopies};
-ghost use Rattle.vs_model.specs.Logs.{Cluster, HaveDistinctGtids, IsPositionAfter, Log, LogsAreDistinct, due, stop};
+ghost use Rattle.vs_model.specs.Logs.{
+  Cluster,
+  HaveDistinctGtids,
+  Image,
+  IsPositionAfter,
+  Log,
+  LogsAreDistinct,
+  due,
+  log_of,
+  stop,
+};
 ghost use Rattle.vs_model.specs.Names.{Position};
-ghost use Rattle.vs_model.specs.Reached.{HasAllDue, IsFinal, IsSettled, StartsAreUnique, StartsToStream};
-ghost use Rattle.vs_model.specs.Steps.{SendsCopy, SendsTx, Step, Steps};
-ghost use Rattle.vs_model.specs.Vectors.{IsCanonicalVector, Vector, switched};
+ghost use Rattle.vs_model.specs.Reached.{HasAllDue, IsFinal, IsSettled, StartsAreUnique, StartsToStream, start_of};
+ghost use Rattle.vs_model.specs.Steps.{AreFirstDue, SendsCopy, SendsTx, Step, Steps};
+ghost use Rattle.vs_model.specs.Vectors.Place.{Fresh};
+ghost use Rattle.vs_model.specs.Vectors.{Copies, IsCanonicalPlace, IsCanonicalVector, Place, Vector, place_of, stands, switched};
 
 /// Frames that follow one another by lawful steps are a legal list, and there is no other.
 pub fn law_steps()
@@ -64,4 +78,49 @@ pub fn law_due()
         due s log p ≡ sent ++ rest → IsPositionAfter p sent q → due s log q ≡ rest }
     ensures stop { (s : ShardName) (log : Log) (p q : Position) (sent rest : List Entry) → HaveDistinctGtids log.entries →
         due s log p ≡ sent ++ rest → IsPositionAfter p sent q → stop s log q ≡ stop s log p }
+{}
+
+/// Where a lane's first pieces were handled, the next one is the transaction of the first entry that
+/// is due. Where all were, and they were all that was due, nothing is due, and the journal ahead is
+/// the one that was ahead of the lane's start. Whether a lane streams or copies, its first pieces
+/// are what it may give, and behind its first piece the others are what a lane may give from there.
+pub fn law_lane()
+    ensures next { (bound : Bound) (s : ShardName) (log : Log) (p q : Position) (handled waiting : List Entry) (told : Entry) →
+        HaveDistinctGtids log.entries → AreFirstDue bound s log p (handled ++ told ∷ waiting) → IsPositionAfter p handled q →
+        (e : Entry) × (rest : List Entry) × (due s log q ≡ e ∷ rest) × (told ≡ picked bound e) }
+    ensures end { (bound : Bound) (s : ShardName) (log : Log) (p q : Position) (handled : List Entry) → HaveDistinctGtids log.entries →
+        (all : AreFirstDue bound s log p handled) → all.rest ≡ [] → IsPositionAfter p handled q →
+        (due s log q ≡ []) × (stop s log q ≡ stop s log p) }
+    ensures front { (bound : Bound) (s : ShardName) (log : Log) (first more : List Piece) (last : Option JournalValue) (start : Place) →
+        AreGiven bound s log (first ++ more) last start → AreGiven bound s log first None start }
+    ensures rest { (bound : Bound) (s : ShardName) (log : Log) (piece : Piece) (pieces : List Piece) (last : Option JournalValue) (from to : Place) →
+        HaveDistinctGtids log.entries → AreGiven bound s log (piece ∷ pieces) last from → PlaceAfter from piece to → IsCanonicalPlace to →
+        AreGiven bound s log pieces last to }
+{}
+
+/// Whatever the order in which pieces are taken and handled, lanes are lost and begun again, and
+/// journals take effect: where each lane gave what its log lets it, the frames are legal. The gate's
+/// vector is the last one. Where a shard copied and none does any more, the end of all copies was
+/// sent behind the last end of a copy, or is due.
+pub fn law_core()
+    ensures legal { (cluster : Cluster) (rules : Filter) (v0 : Vector) (fs : List Frame) (core : Core) → LogsAreDistinct cluster →
+        IsCanonicalVector v0 → CoreRun v0 fs core → AreLanes cluster rules core → Legal cluster rules v0 fs }
+    ensures vector { (v0 : Vector) (fs : List Frame) (core : Core) → CoreRun v0 fs core → last_vector v0 fs ≡ core.vector }
+    ensures all_copied { (cluster : Cluster) (rules : Filter) (v0 : Vector) (fs : List Frame) (core : Core) (s : ShardName) (place : Place) →
+        LogsAreDistinct cluster → IsCanonicalVector v0 → CoreRun v0 fs core → AreLanes cluster rules core →
+        Copies v0 s place → NoneCopies core.vector → core.all_copied ≡ false → HasAllCopied fs }
+{}
+
+/// A client that applies the frames of a shard to empty tables, from the beginning of its copy on,
+/// has the shard's picked rows up to the last key that was sent, and all of them after the end of
+/// the copy: those that the entries before its position leave. The keys of the picked tables are
+/// told, and each change fits the rows that the changes before it leave.
+pub fn law_copies()
+    ensures { (cluster : Cluster) (rules : Filter) (told_key : List ℕ → Image → Image) (v0 : Vector) (fs : List Frame) (s : ShardName) (place : Place) →
+        LogsAreDistinct cluster → IsOrdered (rules s) → KeepsKeys (rules s) told_key →
+        Legal cluster rules v0 fs → place_of v0 s ≡ Some Fresh → AllByRecursion (λ v. IsTrue (stands v s)) (vectors_along v0 fs) →
+        place_of (last_vector v0 fs) s ≡ Some place → ChangesFit (rules s) (changes_in (front (log_of cluster s) (start_of place))) →
+        (table : List ℕ) (key : Image) → Contains (rules s).tables table →
+        client_row (rules s) told_key (frames_of s fs) table key
+        ≡ copied_row (rules s) place (changes_in (front (log_of cluster s) (start_of place))) table key }
 {}

@@ -1,4 +1,6 @@
-use crate::{law_due, law_final, law_frames, law_resume, law_steps};
+use crate::{
+    law_copies, law_core, law_due, law_final, law_frames, law_lane, law_resume, law_steps,
+};
 
 #[test]
 fn laws_are_called() {
@@ -7,4 +9,7 @@ fn laws_are_called() {
     law_final();
     law_frames();
     law_due();
+    law_lane();
+    law_core();
+    law_copies();
 }
