@@ -12,30 +12,35 @@ use crate::vgtid::VGtid;
 use crate::{OutOfMemory, ProtoRefusal};
 use std::alloc::Global;
 
+/// Reads the request of a client. Unknown fields are passed over.
 pub fn read_request(alloc: Global, bytes: &[u8]) -> Result<VStreamRequest, ProtoRefusal>
     ensures { Reads result (read (request true) bytes.now) }
 {
     read_message(alloc, bytes)
 }
 
+/// Reads the events of a frame. Unknown fields are passed over.
 pub fn read_response(alloc: Global, bytes: &[u8]) -> Result<VStreamResponse, ProtoRefusal>
     ensures { Reads result (read (response true) bytes.now) }
 {
     read_message(alloc, bytes)
 }
 
+/// Reads one event. Unknown fields are passed over.
 pub fn read_event(alloc: Global, bytes: &[u8]) -> Result<VEvent, ProtoRefusal>
     ensures { Reads result (read (event true) bytes.now) }
 {
     read_message(alloc, bytes)
 }
 
+/// Reads a position vector. Unknown fields are passed over.
 pub fn read_vgtid(alloc: Global, bytes: &[u8]) -> Result<VGtid, ProtoRefusal>
     ensures { Reads result (read (vgtid true) bytes.now) }
 {
     read_message(alloc, bytes)
 }
 
+/// Reads a reshard journal. Unknown fields are passed over.
 pub fn read_journal(alloc: Global, bytes: &[u8]) -> Result<Journal, ProtoRefusal>
     ensures { Reads result (read (journal true) bytes.now) }
 {
@@ -58,6 +63,7 @@ fn write_message<M: Message>(
     Ok(())
 }
 
+/// Appends the request of a client.
 pub fn write_request(
     alloc: Global,
     out: &mut Vec<u8>,
@@ -69,6 +75,7 @@ pub fn write_request(
     write_message(alloc, out, m)
 }
 
+/// Appends the events of a frame.
 pub fn write_response(
     alloc: Global,
     out: &mut Vec<u8>,
@@ -80,6 +87,7 @@ pub fn write_response(
     write_message(alloc, out, m)
 }
 
+/// Appends one event.
 pub fn write_event(alloc: Global, out: &mut Vec<u8>, m: &VEvent) -> Result<(), OutOfMemory>
     ensures ok { OnOk result (out.new.items ≡ out.old.items ++ spelling (event true) m.now) }
     ensures err { OnErr result (out.new.items ≡ out.old.items) }
@@ -87,6 +95,7 @@ pub fn write_event(alloc: Global, out: &mut Vec<u8>, m: &VEvent) -> Result<(), O
     write_message(alloc, out, m)
 }
 
+/// Appends a position vector.
 pub fn write_vgtid(alloc: Global, out: &mut Vec<u8>, m: &VGtid) -> Result<(), OutOfMemory>
     ensures ok { OnOk result (out.new.items ≡ out.old.items ++ spelling (vgtid true) m.now) }
     ensures err { OnErr result (out.new.items ≡ out.old.items) }
@@ -94,6 +103,7 @@ pub fn write_vgtid(alloc: Global, out: &mut Vec<u8>, m: &VGtid) -> Result<(), Ou
     write_message(alloc, out, m)
 }
 
+/// Appends a reshard journal.
 pub fn write_journal(alloc: Global, out: &mut Vec<u8>, m: &Journal) -> Result<(), OutOfMemory>
     ensures ok { OnOk result (out.new.items ≡ out.old.items ++ spelling (journal true) m.now) }
     ensures err { OnErr result (out.new.items ≡ out.old.items) }

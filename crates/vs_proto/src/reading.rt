@@ -1,8 +1,6 @@
-ghost use Rattle.std.specs.Prelude.{◌≡◌, Option};
+ghost use Rattle.std.specs.Prelude.{None};
 ghost use Rattle.vs_proto.specs.Answers.{Reads, ReadsInto};
 ghost use Rattle.vs_proto.specs.Shapes.{ended, read, read_into};
-ghost use Rattle.std.specs.Prelude.{None, ℕ};
-ghost use Rattle.vs_wire.specs.declared.refusal.Flaw.{Flaw};
 
 use crate::message::Message;
 use crate::refusal::{ProtoRefusal, at_no_field};
