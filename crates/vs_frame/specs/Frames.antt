@@ -1,0 +1,68 @@
+-- A frame is a message behind its length, in four bytes, the highest first.
+use Rattle.std.specs.Prelude.{◌≡◌, ℕ, ◌^◌, ◌<◌, ◌≤◌, ◌⊎◌, List, [], ◌∷◌, ◌++◌, length, All, Option, Some, None, Result, Ok, Err}
+use Rattle.std.specs.Int.{w32, to_be_bytes}
+use Rattle.vs_frame.specs.declared.refusal.FrameRefusal.{FrameRefusal}
+use Rattle.vs_frame.specs.declared.refusal.FrameRefusal.TheVariants.{FrameTooLong, Memory}
+
+abbrev pub framed : List ℕ → List ℕ
+framed message = to_be_bytes w32 (length message) ++ message
+
+-- frames one after the other
+abbrev pub frames_bytes : List (List ℕ) → List ℕ
+frames_bytes [] = []
+frames_bytes (m ∷ ms) = framed m ++ frames_bytes ms
+
+-- at most 16 MiB
+abbrev pub IsWithinLimit : List ℕ → Type 0
+IsWithinLimit message = length message ≤ 16777216
+
+-- the bytes begin with the frame of this message, and this is behind it
+abbrev pub Begins : List ℕ → List ℕ → List ℕ → Type 0
+Begins bytes message rest = (bytes ≡ framed message ++ rest) × IsWithinLimit message
+
+-- the bytes begin with a frame
+abbrev pub HasFrame : List ℕ → Type 0
+HasFrame bytes = (message : List ℕ) × (rest : List ℕ) × Begins bytes message rest
+
+-- the bytes begin with a length over the limit
+abbrev pub IsTooLong : List ℕ → ℕ → Type 0
+IsTooLong bytes n = (16777216 < n) × (n < 2 ^ 32) × ((rest : List ℕ) × (bytes ≡ to_be_bytes w32 n ++ rest))
+
+-- less than a frame: not all of a length, or a length within the limit and fewer bytes than it says
+abbrev pub IsPart : List ℕ → Type 0
+IsPart bytes = (length bytes < 4) ⊎ ((n : ℕ) × (rest : List ℕ) × (bytes ≡ to_be_bytes w32 n ++ rest) × (n ≤ 16777216) × (length rest < n))
+
+-- ---- a framer
+
+-- the bytes that were fed and not yet given, and the refusal that stands from then on
+pub record Held : Type 0 where
+  pub bytes : List ℕ
+  pub refused : Option FrameRefusal
+
+abbrev pub holding : List ℕ → Held
+holding bytes = record { bytes = bytes; refused = None }
+
+-- more bytes are held
+abbrev pub with_more : Held → List ℕ → Held
+with_more h piece = record h { bytes = h.bytes ++ piece }
+
+-- why a framer refuses: want of memory, or a length over the limit
+abbrev pub Refuses : List ℕ → FrameRefusal → Type 0
+Refuses bytes (FrameTooLong n) = IsTooLong bytes n
+Refuses bytes Memory = Unit {0}
+
+-- What the next frame of a framer is: none yet, the one at the front, or a refusal, which stays.
+abbrev pub Gives : Held → Result (Option (List ℕ)) FrameRefusal → Held → Type 0
+Gives old (Ok None) new = (old.refused ≡ None) × IsPart old.bytes × (new ≡ old)
+Gives old (Ok (Some message)) new = (old.refused ≡ None) × Begins old.bytes message new.bytes × (new.refused ≡ None)
+Gives old (Err e) new = (new.refused ≡ Some e) × ((old.refused ≡ Some e) ⊎ ((old.refused ≡ None) × Refuses old.bytes e))
+
+-- ---- the laws
+
+-- all that was fed are the frames of the messages that were given, each within the limit, and what is held
+abbrev pub IsGiven : List ℕ → List (List ℕ) → List ℕ → Type 0
+IsGiven fed messages held = (fed ≡ frames_bytes messages ++ held) × All IsWithinLimit messages
+
+-- no frame stands at the front
+abbrev pub HasNone : List ℕ → Type 0
+HasNone bytes = (message rest : List ℕ) → ¬ (Begins bytes message rest)

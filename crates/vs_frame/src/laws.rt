@@ -1,0 +1,24 @@
+ghost use Rattle.std.specs.Prelude.{◌≡◌, ◌∷◌, ◌++◌, ℕ, List, []};
+ghost use Rattle.vs_frame.specs.Frames.{Begins, HasNone, IsGiven, IsPart, IsTooLong};
+
+/// What stands at the front of some bytes is one of three: less than a frame, one frame and one
+/// rest, or one length over the limit.
+pub fn law_front()
+    ensures part { (bytes : List ℕ) → IsPart bytes → HasNone bytes }
+    ensures part_fits { (bytes : List ℕ) (n : ℕ) → IsPart bytes → ¬ (IsTooLong bytes n) }
+    ensures too_long { (bytes : List ℕ) (n : ℕ) → IsTooLong bytes n → HasNone bytes }
+    ensures one_length { (bytes : List ℕ) (n m : ℕ) → IsTooLong bytes n → IsTooLong bytes m → n ≡ m }
+    ensures one_frame { (bytes m n rest left : List ℕ) → Begins bytes m rest → Begins bytes n left → (m ≡ n) × (rest ≡ left) }
+{}
+
+/// However the bytes are cut into pieces, the messages given are the first ones of all bytes fed,
+/// and all of them where no frame is at the front of what is held.
+pub fn law_frames()
+    ensures starts { IsGiven [] [] [] }
+    ensures fed { (fed held piece : List ℕ) (ms : List (List ℕ)) → IsGiven fed ms held → IsGiven (fed ++ piece) ms (held ++ piece) }
+    ensures given { (fed held m rest : List ℕ) (ms : List (List ℕ)) → IsGiven fed ms held → Begins held m rest → IsGiven fed (ms ++ m ∷ []) rest }
+    ensures first { (fed held left : List ℕ) (ms ns : List (List ℕ)) → IsGiven fed ms held → IsGiven fed ns left → HasNone left
+        → (more : List (List ℕ)) × (ns ≡ ms ++ more) }
+    ensures all { (fed held left : List ℕ) (ms ns : List (List ℕ)) → IsGiven fed ms held → IsGiven fed ns left → HasNone held → HasNone left
+        → (ms ≡ ns) × (held ≡ left) }
+{}

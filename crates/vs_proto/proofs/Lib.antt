@@ -1,0 +1,9 @@
+pub mod SpellingLemmas
+pub mod TextLemmas
+pub mod ReadingLemmas
+pub mod CellLemmas
+pub mod PackedLemmas
+pub mod ShapeLaws
+pub mod KindLaws
+pub mod MessageLaws
+pub mod FrameLaws

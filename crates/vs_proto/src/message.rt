@@ -1,0 +1,34 @@
+ghost use Rattle.std.specs.Prelude.{◌≡◌, ◌++◌, OnOk, length};
+ghost use Rattle.vs_wire.specs.Seen.{seen_value};
+ghost use Rattle.vs_proto.specs.Answers.{Takes, capped};
+ghost use Rattle.vs_proto.specs.Shapes.{Shape, spelling, take_field};
+
+use crate::OutOfMemory;
+use crate::refusal::Stop;
+use std::alloc::Global;
+use vs_wire::FieldValue;
+
+/// A message: how its fields are taken one by one, and how they are spelled.
+pub(crate) trait Message: Drop {
+    ghost shape: { Shape Self };
+
+    /// The message without fields.
+    fn empty(alloc: Global) -> Self
+        ensures { result ≡ shape.empty };
+
+    /// Tests the rule over the whole message.
+    fn is_whole(&self) -> bool
+        ensures { result ≡ shape.is_whole self.now };
+
+    /// Takes the value of one field, unless its number is unknown.
+    fn take(&mut self, alloc: Global, number: u32, value: FieldValue<'_>) -> Result<(), Stop>
+        ensures { Takes result self.new (take_field shape.slots self.old number (seen_value value.entry)) };
+
+    /// How many bytes its spelling has, or the greatest number where they are more.
+    fn len(&self) -> usize
+        ensures { result ≡ capped (length (spelling shape self.now)) };
+
+    /// Appends its spelling, or a part of it where memory runs out.
+    fn put(&self, alloc: Global, out: &mut Vec<u8>) -> Result<(), OutOfMemory>
+        ensures { OnOk result (out.new.items ≡ out.old.items ++ spelling shape self.now) };
+}
