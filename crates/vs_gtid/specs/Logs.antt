@@ -1,8 +1,6 @@
 -- What a log means, whatever its bytes are.
 use Rattle.vs_base.specs.declared.Why.{Why}
 use Rattle.vs_gtid.specs.declared.entry.Entry.{Entry}
-use Rattle.vs_gtid.specs.declared.entry.Work.{Work}
-use Rattle.vs_gtid.specs.declared.entry.Work.TheVariants.{Rows, Ddl, Other, Journal}
 use Rattle.vs_gtid.specs.Positions.{Position}
 use Rattle.vs_base.specs.Names.{same_gtid}
 use Rattle.std.specs.Prelude.{◌≡◌, ℕ, false, List, [], ◌∷◌, Option}
@@ -18,10 +16,3 @@ pub record Log : Type 0 where
 abbrev pub HaveDistinctGtids : List Entry → Type 0
 HaveDistinctGtids [] = Unit {0}
 HaveDistinctGtids (e ∷ es) = (list_any (λ f. same_gtid e.gtid f.gtid) es ≡ false) × HaveDistinctGtids es
-
--- the work is a single statement
-abbrev pub IsStatement : Work → Type 0
-IsStatement (Rows changes) = ⊥
-IsStatement (Ddl text) = Unit {0}
-IsStatement Other = Unit {0}
-IsStatement (Journal j) = ⊥
