@@ -1,16 +1,24 @@
 -- Lines, and what stands before the first byte of a value.
-use Rattle.std.proofs.Common.{◌≡◌, ◌≢◌, ◌≤◌, ◌<◌, ◌+◌, ◌∙◌, ℕ, List, [], ◌∷◌, ◌++◌, Bool, true, false, length, take, get_or, Option, Some, None, refl, sym, ap, subst, arith, append_assoc, length-append, nat_eq, nat_le, not, ◌&&◌}
+use Rattle.std.proofs.Common.{◌≡◌, ◌≢◌, ◌≤◌, ◌<◌, ◌+◌, ◌∙◌, ℕ, List, [], ◌∷◌, ◌++◌, Bool, true, false, length, take, get_or, Option, Some, None, Result, Ok, Err, refl, sym, ap, subst, arith, append_assoc, length-append, nat_eq, nat_le, not, ◌&&◌}
 use Rattle.std.specs.Prelude.{◌==◌, codes, IfSome, IsSomeAnd, IsTrue}
 use Rattle.std.specs.List.{list_all}
 use Rattle.std.specs.Cmp.Lexicographic.{pointwise}
 use Rattle.std.proofs.lemmas.Bool.{and_parts, eq-eqb, eqb-true, leb-true}
 use Rattle.std.proofs.lemmas.List.{take_more}
 use Rattle.std.proofs.lemmas.Slice.Eq.{bytes_eq-Decides}
-use Rattle.vs_base.specs.Names.{FitsName}
+use Rattle.vs_base.specs.Names.{FitsName, same_name}
+use Rattle.vs_base.proofs.NameLemmas.{same_name-is}
 use Rattle.vs_base.specs.declared.ShardName.{ShardName}
 use Rattle.vs_outside.specs.Names.{has_name_length, is_dots, is_keyspace_text, is_name_byte, is_shard_byte, is_shard_text}
+use Rattle.vs_gtid.specs.declared.refusal.GtidRefusal.{GtidRefusal}
+use Rattle.vs_gtid.specs.declared.refusal.GtidRefusal.TheVariants.{BadText}
+use Rattle.vs_gtid.specs.Positions.{Position}
+use Rattle.vs_gtid.specs.Parts.{scanned, scanned_from}
+use Rattle.vs_gtid.specs.Readings.{Reads, read}
+use Rattle.vs_gtid.proofs.ReadingLemmas.{only}
 use Rattle.vs_command.specs.declared.start.Start.{Start}
-use Rattle.vs_command.specs.Line.{Asks, BeginsWithLine, EndsLine, HasForm, HasLongLine, IsAbsent, IsLineOf, IsRefusedAt, IsSplit, IsTaken, StartsAs, line_of}
+use Rattle.vs_command.specs.declared.start.Start.TheVariants.{At, Current}
+use Rattle.vs_command.specs.Line.{Asks, BeginsWithLine, EndsLine, HasForm, HasLongLine, IsAbsent, IsLineOf, IsRefusedAt, IsSplit, IsTaken, StartsAs, line_of, place_in}
 
 pub absent-append : (c : ℕ) (xs ys : List ℕ) → IsAbsent c xs → IsAbsent c ys → IsAbsent c (xs ++ ys)
 absent-append c [] ys p q = q
@@ -263,3 +271,59 @@ read-refused told name says at refused form =
 
 pub read-long : (told : Option (List ℕ)) → IfSome told (λ bytes. HasLongLine bytes 1048576) → IfSome told (λ bytes. (name : ShardName) (text : List ℕ) → HasForm bytes name text → ⊥)
 read-long told long = told_then (λ bytes. HasLongLine bytes 1048576) (λ bytes. (name : ShardName) (text : List ℕ) → HasForm bytes name text → ⊥) told long-no-form long
+
+-- the input has one form
+form-line : (bytes : List ℕ) (n m : ShardName) (t u : List ℕ) → HasForm bytes n t → HasForm bytes m u → line_of n t ≡ line_of m u
+form-line bytes n m t u p q = same-line (line_of n t) p.rest (line_of m u) q.rest (absent-line n t p.line p.whole) (absent-line m u q.line q.whole) p.ends q.ends (sym p.is ∙ q.is)
+
+-- the line, split where its keyspace ends and where its shard ends
+line-split : (n : ShardName) (t : List ℕ) → IsLineOf (line_of n t) n t → IsSplit (line_of n t) 47 n.keyspace (n.shard ++ 32 ∷ t) × IsSplit (n.shard ++ 32 ∷ t) 32 n.shard t
+line-split n t of =
+    (record { is = line-slashed n t; absent = absent-keyspace 47 n.keyspace refl of.keyspace }, record { is = refl; absent = absent-shard 32 n.shard refl of.shard })
+
+both_are : (a b c d : List ℕ) → a ≡ b → c ≡ d → (pointwise nat_eq a b && pointwise nat_eq c d) ≡ true
+both_are a b c d p q = let x : pointwise nat_eq a b ≡ true = (bytes_eq-Decides a b).1 p in let y : pointwise nat_eq c d ≡ true = (bytes_eq-Decides c d).1 q in cc
+
+same_parts : (n m : ShardName) → n.keyspace ≡ m.keyspace → n.shard ≡ m.shard → n ≡ m
+unfolding same_name
+same_parts n m p q = same_name-is n m (both_are n.keyspace m.keyspace n.shard m.shard p q)
+
+pub one-form : (bytes : List ℕ) (n m : ShardName) (t u : List ℕ) → HasForm bytes n t → HasForm bytes m u → (n ≡ m) × (t ≡ u)
+one-form bytes n m t u p q =
+    let line : line_of n t ≡ line_of m u = form-line bytes n m t u p q in
+    let of : IsLineOf (line_of n t) m u = subst (λ x. IsLineOf x m u) (sym line) q.line in
+    let split = line-split n t p.line in
+    (same_parts n m (line-keyspace (line_of n t) n.keyspace (n.shard ++ 32 ∷ t) split.0 m u of)
+        (line-shard (line_of n t) n.keyspace (n.shard ++ 32 ∷ t) n.shard t split.0 split.1 m u of),
+    line-text (line_of n t) n.keyspace (n.shard ++ 32 ∷ t) n.shard t split.0 split.1 m u of)
+
+-- and its text says one thing
+current_read : read (codes "current") ≡ Err (BadText 1)
+unfolding scanned scanned_from
+current_read = refl
+
+no_set : (text : List ℕ) (p : Position) → Reads text (Ok p) → text ≡ codes "current" → ⊥
+no_set text p reads is =
+    let e : ◌≡◌ {A = Result Position GtidRefusal} (Ok p) (Err (BadText 1)) = only (codes "current") (Ok p) (subst (λ t. Reads t (Ok p)) is reads) ∙ current_read in
+    cc
+
+pub one-start : (text : List ℕ) (a b : Start) → StartsAs text a → StartsAs text b → a ≡ b
+one-start text (At p) (At q) h k =
+    let e : ◌≡◌ {A = Result Position GtidRefusal} (Ok p) (Ok q) = only text (Ok p) h ∙ sym (only text (Ok q) k) in
+    let same : p ≡ q = cc in
+    ap (λ x. At x) same
+one-start text (At p) Current h k = absurd (no_set text p h k)
+one-start text Current (At q) h k = absurd (no_set text q k h)
+one-start text Current Current h k = refl
+
+pub no-start : (text : List ℕ) (at : ℕ) (a : Start) → StartsAs text a → IsRefusedAt text at → ⊥
+no-start text at (At p) h refused =
+    let e : ◌≡◌ {A = Result Position GtidRefusal} (Ok p) (Err refused.1) = only text (Ok p) h ∙ sym (only text (Err refused.1) refused.2) in
+    cc
+no-start text at Current h refused = refused.0 h
+
+pub one-place : (text : List ℕ) (at k : ℕ) → IsRefusedAt text at → IsRefusedAt text k → at ≡ k
+one-place text at k p q =
+    let e : ◌≡◌ {A = Result Position GtidRefusal} (Err p.1) (Err q.1) = only text (Err p.1) p.2 ∙ sym (only text (Err q.1) q.2) in
+    let same : p.1 ≡ q.1 = cc in
+    sym p.3 ∙ ap (λ r. place_in text r) same ∙ q.3

@@ -17,6 +17,7 @@ ghost use Rattle.std.specs.Prelude.{
 ghost use Rattle.std.specs.Cmp.Lexicographic.{pointwise};
 ghost use Rattle.vs_base.specs.declared.ShardName.{ShardName};
 ghost use Rattle.vs_outside.specs.Counts.{Rose};
+ghost use Rattle.vs_command.specs.declared.start.Start.{Start};
 ghost use Rattle.vs_command.specs.Line.{
   Asks,
   BeginsWithLine,
@@ -186,3 +187,12 @@ pub fn read_request<I: Source>(alloc: Global, input: &mut I) -> Result<Asked, Li
         Err(end) => Err(end),
     }
 }
+
+/// What the front of an input says is one thing: it has one form at most, and the text of that says
+/// one start, or has one first fault.
+pub fn law_line()
+    ensures form { (bytes : Items ℕ) (n m : ShardName) (t u : Items ℕ) → HasForm bytes n t → HasForm bytes m u → (n ≡ m) × (t ≡ u) }
+    ensures start { (text : Items ℕ) (a b : Start) → StartsAs text a → StartsAs text b → a ≡ b }
+    ensures refused { (text : Items ℕ) (at : ℕ) (a : Start) → StartsAs text a → IsRefusedAt text at → ⊥ }
+    ensures place { (text : Items ℕ) (at k : ℕ) → IsRefusedAt text at → IsRefusedAt text k → at ≡ k }
+{}

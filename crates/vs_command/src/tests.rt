@@ -1,3 +1,4 @@
+use crate::line::law_line;
 use crate::run::run;
 use std::alloc::{AllocError, Global};
 use std::sync::Wait;
@@ -347,6 +348,7 @@ fn journals_are_copied(rt: HostRuntime) -> Result<(), AllocError> {
     law_added();
     law_united();
     law_equal_sets();
+    law_line();
     let journal = JournalValue {
         id: 7,
         shards: true,
