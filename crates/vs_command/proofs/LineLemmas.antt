@@ -292,10 +292,11 @@ pub one-form : (bytes : List ℕ) (n m : ShardName) (t u : List ℕ) → HasForm
 one-form bytes n m t u p q =
     let line : line_of n t ≡ line_of m u = form-line bytes n m t u p q in
     let of : IsLineOf (line_of n t) m u = subst (λ x. IsLineOf x m u) (sym line) q.line in
-    let split = line-split n t p.line in
-    (same_parts n m (line-keyspace (line_of n t) n.keyspace (n.shard ++ 32 ∷ t) split.0 m u of)
-        (line-shard (line_of n t) n.keyspace (n.shard ++ 32 ∷ t) n.shard t split.0 split.1 m u of),
-    line-text (line_of n t) n.keyspace (n.shard ++ 32 ∷ t) n.shard t split.0 split.1 m u of)
+    let split = line-split n t p.line in (
+      same_parts n m (line-keyspace (line_of n t) n.keyspace (n.shard ++ 32 ∷ t) split.0 m u of)
+          (line-shard (line_of n t) n.keyspace (n.shard ++ 32 ∷ t) n.shard t split.0 split.1 m u of),
+      line-text (line_of n t) n.keyspace (n.shard ++ 32 ∷ t) n.shard t split.0 split.1 m u of,
+    )
 
 -- and its text says one thing
 current_read : read (codes "current") ≡ Err (BadText 1)
