@@ -46,16 +46,17 @@ holding bytes = record { bytes = bytes; refused = None }
 abbrev pub with_more : Held → List ℕ → Held
 with_more h piece = record h { bytes = h.bytes ++ piece }
 
--- why a framer refuses: want of memory, or a length over the limit
-abbrev pub Refuses : List ℕ → FrameRefusal → Type 0
-Refuses bytes (FrameTooLong n) = IsTooLong bytes n
-Refuses bytes Memory = Unit {0}
+-- why a framer that refused nothing yet refuses, and what it holds then: a length over the limit stands at the front, and
+-- stays; or memory ran out
+abbrev pub Refuses : List ℕ → FrameRefusal → List ℕ → Type 0
+Refuses bytes (FrameTooLong n) left = IsTooLong bytes n × (left ≡ bytes)
+Refuses bytes Memory left = Unit {0}
 
 -- What the next frame of a framer is: none yet, the one at the front, or a refusal, which stays.
 abbrev pub Gives : Held → Result (Option (List ℕ)) FrameRefusal → Held → Type 0
 Gives old (Ok None) new = (old.refused ≡ None) × IsPart old.bytes × (new ≡ old)
 Gives old (Ok (Some message)) new = (old.refused ≡ None) × Begins old.bytes message new.bytes × (new.refused ≡ None)
-Gives old (Err e) new = (new.refused ≡ Some e) × ((old.refused ≡ Some e) ⊎ ((old.refused ≡ None) × Refuses old.bytes e))
+Gives old (Err e) new = (new.refused ≡ Some e) × ((new ≡ old) ⊎ ((old.refused ≡ None) × Refuses old.bytes e new.bytes))
 
 -- ---- the laws
 
