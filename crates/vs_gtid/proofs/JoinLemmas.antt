@@ -105,7 +105,7 @@ IsCanonical-merged [] a = tt
 IsCanonical-merged (i ∷ rest) a =
     IsCanonical-joined (merged rest) i (All-head IsInterval i rest a) (IsCanonical-merged rest (All-tail IsInterval i rest a))
 
-AreIntervals : (p : Position) → IsCanonical p → All IsInterval p
+pub AreIntervals : (p : Position) → IsCanonical p → All IsInterval p
 AreIntervals [] c = All-nil IsInterval
 AreIntervals (i ∷ rest) c = All-cons IsInterval i rest c.0 (AreIntervals rest c.2)
 

@@ -1,6 +1,9 @@
 pub mod Block
 pub mod Joins
 pub mod Missing
+pub mod Parts
 pub mod Positions
+pub mod Readings
+pub mod SetTexts
 pub mod Text
 pub mod Logs

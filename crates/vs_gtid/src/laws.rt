@@ -1,9 +1,12 @@
 //! What sets keep to, as contracts of functions that do nothing.
-ghost use Rattle.std.specs.Prelude.{◌≡◌, ◌||◌};
+ghost use Rattle.std.specs.Prelude.{◌≡◌, ◌≤◌, ◌||◌, ℕ, List, Result, Ok, length};
 ghost use Rattle.vs_base.specs.Names.{same_gtid};
 ghost use Rattle.vs_base.specs.declared.gtid.Gtid.{Gtid};
 ghost use Rattle.vs_gtid.specs.Joins.{added, united};
+ghost use Rattle.vs_gtid.specs.declared.refusal.GtidRefusal.{GtidRefusal};
 ghost use Rattle.vs_gtid.specs.Positions.{has, IsCanonical, Position, SameSet};
+ghost use Rattle.vs_gtid.specs.Readings.{Reads};
+ghost use Rattle.vs_gtid.specs.Text.{position_text, set_text};
 
 /// Sets with the same GTIDs are equal.
 pub fn law_equal_sets()
@@ -19,4 +22,16 @@ pub fn law_added()
 pub fn law_united()
     ensures members { (p : Position) → (q : Position) → IsCanonical p → IsCanonical q → (x : Gtid) → has (united p q) x ≡ (has p x || has q x) }
     ensures canonical { (p : Position) → (q : Position) → IsCanonical p → IsCanonical q → IsCanonical (united p q) }
+{}
+
+/// Each text says one thing: a set, or a fault with its place.
+pub fn law_readings()
+    ensures one { (text : List ℕ) → (r : Result Position GtidRefusal) → (s : Result Position GtidRefusal) → Reads text r → Reads text s → r ≡ s }
+    ensures some { (text : List ℕ) → (r : Result Position GtidRefusal) × Reads text r }
+{}
+
+/// What is printed of a set says that set, with the prefix and without.
+pub fn law_printed()
+    ensures set { (p : Position) → IsCanonical p → length p ≤ 1024 → Reads (set_text p) (Ok p) }
+    ensures position { (p : Position) → IsCanonical p → length p ≤ 1024 → Reads (position_text p) (Ok p) }
 {}

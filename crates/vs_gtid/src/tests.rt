@@ -79,3 +79,67 @@ fn a_block_is_read(rt: HostRuntime) -> Result<(), Fail> {
     }
     Ok(())
 }
+
+fn expect_printed(rt: &impl Abort, alloc: Global, text: &[u8], printed: &[u8]) -> Result<(), Fail> {
+    let set = GtidSet::parse(alloc, text)?;
+    let mut out = Vec::new(alloc);
+    set.put_text(alloc, &mut out)?;
+    assert_eq!(rt; out.as_slice(), printed);
+    Ok(())
+}
+
+fn expect_refused(rt: &impl Abort, alloc: Global, text: &[u8], refusal: GtidRefusal) {
+    match GtidSet::parse(alloc, text) {
+        Ok(_) => assert!(rt; false, "a text with a fault was read"),
+        Err(found) => assert_eq!(rt; found, refusal),
+    }
+}
+
+#[test]
+fn texts_are_read(rt: HostRuntime) -> Result<(), Fail> {
+    let alloc = rt.alloc();
+    let rows: [(&[u8], &[u8]); 5] = [
+        (b"", b""),
+        (b"MySQL56/ \t\r\n", b""),
+        (
+            b"00000000-0000-0000-0000-00000000000A:3, 00000000-0000-0000-0000-00000000000a:1-2:5:2",
+            b"00000000-0000-0000-0000-00000000000a:1-3:5",
+        ),
+        (
+            b"MySQL56/00000000-0000-0000-0000-00000000000b:7 ,00000000-0000-0000-0000-000000000001:01-02",
+            b"00000000-0000-0000-0000-000000000001:1-2,00000000-0000-0000-0000-00000000000b:7",
+        ),
+        (
+            b"00000000-0000-0000-0000-000000000001:9223372036854775806",
+            b"00000000-0000-0000-0000-000000000001:9223372036854775806",
+        ),
+    ];
+    for (text, printed) in rows {
+        expect_printed(&rt, alloc, text, printed)?;
+    }
+    Ok(())
+}
+
+#[test]
+fn texts_are_refused(rt: HostRuntime) -> Result<(), Fail> {
+    let alloc = rt.alloc();
+    let rows: [(&[u8], GtidRefusal); 9] = [
+        (b":0", GtidRefusal::ZeroNumber { at: 37 }),
+        (b":5-3", GtidRefusal::EmptyInterval { at: 39 }),
+        (b":0,x", GtidRefusal::BadText { at: 39 }),
+        (b"", GtidRefusal::BadText { at: 36 }),
+        (b":1-", GtidRefusal::BadText { at: 39 }),
+        (b":1x", GtidRefusal::BadText { at: 38 }),
+        (b":5-3:0", GtidRefusal::ZeroNumber { at: 41 }),
+        (b":9223372036854775807x", GtidRefusal::BadText { at: 37 }),
+        (b":00000000000000000001", GtidRefusal::BadText { at: 56 }),
+    ];
+    for (spans, refusal) in rows {
+        let mut text = Vec::from_slice(alloc, b"00000000-0000-0000-0000-000000000001")?;
+        text.extend_from_slice(spans)?;
+        expect_refused(&rt, alloc, text.as_slice(), refusal);
+    }
+    expect_refused(&rt, alloc, b"x", GtidRefusal::BadText { at: 0 });
+    expect_refused(&rt, alloc, b"MyS", GtidRefusal::BadText { at: 3 });
+    Ok(())
+}

@@ -1,0 +1,7 @@
+use Rattle.std.proofs.Common.{◌≡◌, drop}
+use Rattle.vs_gtid.specs.Readings.{first_place, empty_at}
+use Rattle.vs_gtid.proofs.parse.first_empty.Given as goal
+
+-- what comes first in the rest comes first in all
+abbrev pub invariant-loop-span : goal.invariant-loop-span
+invariant-loop-span l = first_place empty_at (drop l.span-index l.spans) ≡ first_place empty_at l.spans
