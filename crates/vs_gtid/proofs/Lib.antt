@@ -15,5 +15,6 @@ pub mod SetTextOver
 pub mod SetTextStands
 pub mod SetTextSteps
 pub mod SetTextWalks
+mod TextExamples
 pub mod TextLemmas
 pub mod UuidLemmas

@@ -1,0 +1,97 @@
+#!/usr/bin/env bash
+# Times a million calls of GtidSet::add and GtidSet::contains, in nanoseconds per call.
+# The program is made, proved and built in a folder of its own, and nothing of it stays.
+# Usage: bench/gtid_calls.sh
+set -eu
+top=$(cd "$(dirname "$0")/.." && pwd)
+room=$(mktemp -d)
+trap 'rm -rf "$room"' EXIT
+
+mkdir -p "$room/crates"
+for crate in vs_base vs_gtid; do
+    mkdir "$room/crates/$crate"
+    for part in src specs proofs; do
+        cp -R "$top/crates/$crate/$part" "$room/crates/$crate/"
+    done
+    grep "^$crate:" "$top/crates.txt" >> "$room/crates.txt"
+    # The tests are not needed, and take long to prove.
+    rm "$room/crates/$crate/src/tests.rt"
+    sed -i '/^#\[cfg(test)\]$/d; /^mod tests;$/d' "$room/crates/$crate/src/lib.rt"
+done
+echo "gtid_calls: vs_base vs_gtid" >> "$room/crates.txt"
+
+mkdir -p "$room/crates/gtid_calls/src"
+cat > "$room/crates/gtid_calls/src/main.rt" <<'PROGRAM'
+//! Times calls of GtidSet.
+#![tactic(auto)]
+
+use std::io;
+use std::time::Instant;
+use vs_base::Gtid;
+use vs_gtid::GtidSet;
+
+const CALLS: u64 = 1_000_000;
+
+/// Adds the numbers from 1 on that leave this remainder, and says whether all were taken.
+fn add_all(set: &mut GtidSet, last: u8, step: u64, count: u64) -> bool {
+    let mut uuid = [0; 16];
+    uuid[15] = last;
+    let mut taken = true;
+    let mut number: u64 = 1;
+    for _ in 0..count {
+        match Gtid::new(uuid, number) {
+            Some(gtid) => taken = set.add(gtid).is_ok() && taken,
+            None => taken = false,
+        }
+        number = number.wrapping_add(step);
+    }
+    taken
+}
+
+/// How many of the numbers the set has.
+fn count_in(set: &GtidSet, last: u8) -> u64 {
+    let mut uuid = [0; 16];
+    uuid[15] = last;
+    let mut found: u64 = 0;
+    for number in 1..CALLS + 1 {
+        if let Some(gtid) = Gtid::new(uuid, number) {
+            if set.contains(&gtid) {
+                found = found.wrapping_add(1);
+            }
+        }
+    }
+    found
+}
+
+fn per_call(start: &Instant, rt: &impl std::rt::Clock) -> io::Result<u64> {
+    let elapsed = start.elapsed(rt)?;
+    Ok((elapsed.as_secs() % 1_000_000) * (1_000_000_000 / CALLS) + u64::from(elapsed.subsec_nanos()) / CALLS)
+}
+
+fn main(rt: HostRuntime) -> io::Result<()> {
+    let alloc = rt.alloc();
+    let mut set = GtidSet::new(alloc);
+    let start = Instant::now(&rt)?;
+    let taken = add_all(&mut set, 1, 1, CALLS);
+    let add = per_call(&start, &rt)?;
+    println!(rt; "add, the next number: {add} ns (taken: {taken})")?;
+    let start = Instant::now(&rt)?;
+    let found = count_in(&set, 1);
+    let contains = per_call(&start, &rt)?;
+    println!(rt; "contains, of one interval: {contains} ns (found: {found})")?;
+    let mut wide = GtidSet::new(alloc);
+    let filled = add_all(&mut wide, 1, 2, 100);
+    let start = Instant::now(&rt)?;
+    let found = count_in(&wide, 1);
+    let contains = per_call(&start, &rt)?;
+    println!(rt; "contains, of 100 intervals: {contains} ns (filled: {filled}, found: {found})")?;
+    Ok(())
+}
+PROGRAM
+
+cd "$room/crates/gtid_calls"
+rt fmt > /dev/null
+# The gate compares what a program prints; times differ, so the built program is run here.
+rt run > "$room/log" 2>&1 || true
+[ -x out/gtid_calls ] || { tail -n 40 "$room/log"; exit 1; }
+out/gtid_calls
