@@ -264,8 +264,12 @@ impl Reader {
             Sort::AnonymousEvent => Err(Refusal::Wrong(Why::Anonymous)),
             Sort::PassedOver => Ok(()),
             Sort::QueryEvent => self.take_query(alloc, event, keyspace, gtid, bytes),
-            Sort::ForeignEvent => Err(Refusal::Wrong(Why::Unsupported { kind: read_head(event).kind })),
-            _ => Err(Refusal::Wrong(Why::BadOrder { kind: read_head(event).kind })),
+            Sort::ForeignEvent => Err(Refusal::Wrong(Why::Unsupported {
+                kind: read_head(event).kind,
+            })),
+            _ => Err(Refusal::Wrong(Why::BadOrder {
+                kind: read_head(event).kind,
+            })),
         }
     }
 
@@ -289,8 +293,12 @@ impl Reader {
             Sort::QueryEvent => self.take_later_query(alloc, event, keyspace, gtid, bytes),
             Sort::XidEvent => self.take_xid(alloc, event, gtid),
             Sort::MapEvent | Sort::RowsEvent => Err(Refusal::Wrong(Why::NotBuilt)),
-            Sort::ForeignEvent => Err(Refusal::Wrong(Why::Unsupported { kind: read_head(event).kind })),
-            _ => Err(Refusal::Wrong(Why::BadOrder { kind: read_head(event).kind })),
+            Sort::ForeignEvent => Err(Refusal::Wrong(Why::Unsupported {
+                kind: read_head(event).kind,
+            })),
+            _ => Err(Refusal::Wrong(Why::BadOrder {
+                kind: read_head(event).kind,
+            })),
         }
     }
 
