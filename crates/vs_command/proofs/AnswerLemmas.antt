@@ -1,5 +1,5 @@
 -- What was written of a shard's log answers the line that asks for the shard.
-use Rattle.std.proofs.Common.{◌≡◌, ◌≢◌, ℕ, Bool, true, false, List, [], ◌∷◌, ◌++◌, Option, Some, None, IsTrue, if◌then◌else◌, refl, sym, ap, subst, ◌∙◌, append-nil}
+use Rattle.std.proofs.Common.{◌≡◌, ◌≢◌, ℕ, Bool, true, false, List, [], ◌∷◌, ◌++◌, Option, Some, None, if◌then◌else◌, refl, sym, ap, subst, ◌∙◌}
 use Rattle.std.specs.Prelude.{◌⊎◌, IfSome}
 use Rattle.vs_base.specs.declared.ShardName.{ShardName}
 use Rattle.vs_base.specs.Names.{same_name}
@@ -10,8 +10,7 @@ use Rattle.vs_gtid.specs.Logs.{Log, HaveDistinctGtids}
 use Rattle.vs_outside.specs.Clusters.{Shard, ClusterBytes, find_shard}
 use Rattle.vs_outside.specs.Counts.{Rose}
 use Rattle.vs_outside.specs.Told.{Writes}
-use Rattle.vs_outside.proofs.ToldLemmas.{IsPrefixOf-refl, Writes-none, Writes-weaken}
-use Rattle.vs_gtid.specs.Missing.{IsFirstMissing}
+use Rattle.vs_outside.proofs.ToldLemmas.{Writes-none, Writes-weaken}
 use Rattle.vs_entries.specs.Rules.{rules_of}
 use Rattle.vs_model.specs.Logs.{Cluster, LogsAreDistinct, log_of, after, due, stop, IsPositionAfter}
 use Rattle.vs_model.specs.Vectors.{Place, place_of}
@@ -28,7 +27,7 @@ use Rattle.vs_command.specs.Laws.{AreBuilt, LawOfNewGtids, Laws}
 use Rattle.vs_command.specs.Line.{Asks}
 use Rattle.vs_command.specs.Streaming.Headline.{asked}
 use Rattle.vs_command.specs.Streaming.Outcome.{unread, answers}
-use Rattle.vs_command.specs.Streaming.{Answers, Headline, HasCause, HasLogCause, HasSentAll, IsBeforeStream, IsStart, IsStreamed, IsStreamedFrom, IsUnread, Outcome, cluster_meant, shard_log, start_at, takes_all}
+use Rattle.vs_command.specs.Streaming.{Answers, Headline, HasCause, HasLogCause, HasSentAll, IsStart, IsStreamed, IsStreamedFrom, IsUnread, Outcome, cluster_meant, shard_log, start_at, takes_all}
 use Rattle.vs_command.proofs.LegalLemmas.{after_all, after_built, steps_sent, copies_sent, last_sent, due_all, stop_none}
 
 -- the log of a shard of the cluster is what its bytes mean

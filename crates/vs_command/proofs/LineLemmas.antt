@@ -1,5 +1,5 @@
 -- Lines, and what stands before the first byte of a value.
-use Rattle.std.proofs.Common.{◌≡◌, ◌≢◌, ◌≤◌, ◌<◌, ◌+◌, ◌∙◌, ℕ, List, [], ◌∷◌, ◌++◌, Bool, true, false, length, take, get_or, Option, Some, None, Result, Ok, Err, refl, sym, ap, subst, arith, append_assoc, length-append, nat_eq, nat_le, not, ◌&&◌}
+use Rattle.std.proofs.Common.{◌≡◌, ◌≢◌, ◌≤◌, ◌<◌, ◌+◌, ◌∙◌, ℕ, List, [], ◌∷◌, ◌++◌, Bool, true, false, length, take, get_or, Option, Some, None, Result, Ok, Err, refl, sym, ap, subst, arith, append_assoc, nat_eq, nat_le, not, ◌&&◌}
 use Rattle.std.specs.Prelude.{◌==◌, codes, IfSome, IsSomeAnd, IsTrue}
 use Rattle.std.specs.List.{list_all}
 use Rattle.std.specs.Cmp.Lexicographic.{pointwise}

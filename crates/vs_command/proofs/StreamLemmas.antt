@@ -1,5 +1,5 @@
 -- What was written of a log, by what was sent of its entries.
-use Rattle.std.proofs.Common.{◌≡◌, ◌≢◌, ℕ, List, [], ◌++◌, length, take, Option, Some, None, Result, Ok, Err, refl, sym, ap, subst, ◌∙◌, arith}
+use Rattle.std.proofs.Common.{◌≡◌, ◌≢◌, ℕ, List, [], length, take, Option, Some, None, Result, Ok, Err, refl, sym, ap, subst, ◌∙◌, arith}
 use Rattle.std.specs.Prelude.{◌⊎◌, IfOk}
 use Rattle.std.proofs.lemmas.List.{take_all}
 use Rattle.vs_base.specs.declared.ShardName.{ShardName}

@@ -1,6 +1,6 @@
 -- The line that asks for a stream: `keyspace/shard position`, ended by a line feed or by the end of the input.
 -- The position is a set of GTIDs, or `current` for the log's end.
-use Rattle.std.specs.Prelude.{◌≡◌, ◌≢◌, ◌<◌, ℕ, List, [], ◌∷◌, ◌++◌, length, codes, IsTrue, Option, Some, None, Result, Ok, Err}
+use Rattle.std.specs.Prelude.{◌≡◌, ◌≢◌, ◌<◌, ℕ, List, [], ◌∷◌, ◌++◌, length, codes, IsTrue, Option, Some, None, Ok, Err}
 use Rattle.vs_base.specs.declared.ShardName.{ShardName}
 use Rattle.vs_gtid.specs.declared.refusal.GtidRefusal.{GtidRefusal}
 use Rattle.vs_gtid.specs.declared.refusal.GtidRefusal.TheVariants.{BadText, ZeroNumber, EmptyInterval, BadBlock, TooManyIntervals, Memory}

@@ -1,4 +1,4 @@
-use Rattle.std.proofs.Common.{◌∙◌, refl}
+use Rattle.std.proofs.Common.{refl}
 use Rattle.vs_command.proofs.AnswerLemmas.{Writes-streamed, Writes-unread, told_always, told_so}
 use Rattle.vs_command.proofs.run.stream_shard.Goals as goal
 

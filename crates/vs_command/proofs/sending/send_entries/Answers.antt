@@ -4,8 +4,8 @@ use Rattle.vs_gtid.specs.declared.Entry.{Entry}
 use Rattle.vs_gtid.specs.Positions.{has}
 use Rattle.vs_gtid.specs.Joins.{added}
 use Rattle.vs_outside.specs.Told.{Writes}
-use Rattle.vs_command.specs.Sending.{AreSent, lacking, position_after}
-use Rattle.vs_command.proofs.SendLemmas.{WroteFirst, Writes-frame, Writes-cut_entry, Writes-unsent, lacking-out, lacking-split, position_after-more, split_at, take_next}
+use Rattle.vs_command.specs.Sending.{AreSent, lacking}
+use Rattle.vs_command.proofs.SendLemmas.{Writes-frame, Writes-cut_entry, Writes-unsent, lacking-out, lacking-split, position_after-more, split_at, take_next}
 use Rattle.vs_command.proofs.sending.send_entries.Goals as goal
 
 pub returns-in_default-clause-wrote : goal.returns-in_default-clause-wrote
