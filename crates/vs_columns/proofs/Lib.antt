@@ -1,0 +1,6 @@
+pub mod DigitLemmas
+pub mod DecimalLemmas
+pub mod KeptLemmas
+pub mod DateLemmas
+pub mod FrontLemmas
+pub mod ValueExamples
