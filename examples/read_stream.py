@@ -6,7 +6,7 @@ library reads the message; this script has the few lines that it needs, so that 
 """
 import sys
 
-KINDS = {5: "DDL", 11: "OTHER", 15: "VGTID"}
+KINDS = {2: "BEGIN", 3: "COMMIT", 11: "OTHER"}
 
 
 def varint(data, at):
