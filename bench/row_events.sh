@@ -64,7 +64,8 @@ fn write_each(alloc: Global, out: &mut Vec<u8>, events: &List<VEvent>) -> bool {
 /// Bytes in a microsecond, which are MB in a second.
 fn rate(start: &Instant, bytes: usize, rt: &impl std::rt::Clock) -> io::Result<u64> {
     let elapsed = start.elapsed(rt)?;
-    let micros = (elapsed.as_secs() % 1_000_000) * 1_000_000 + u64::from(elapsed.subsec_nanos()) / 1000;
+    let micros = (elapsed.as_secs() % 1_000_000) * 1_000_000
+        + u64::from(elapsed.subsec_nanos()) / 1000;
     Ok(bytes as u64 / (micros + 1))
 }
 
