@@ -1,28 +1,11 @@
 #!/usr/bin/env bash
 # Times the texts of a million values each of an int, a varchar, a datetime and a decimal with
 # vs_columns, in values per second: into a buffer that is kept, and as cells of their own.
-# The program is made, proved and built in a folder of its own, and nothing of it stays.
 # Usage: bench/column_values.sh
 set -eu
-top=$(cd "$(dirname "$0")/.." && pwd)
-room=$(mktemp -d)
-trap 'rm -rf "$room"' EXIT
+. "$(dirname "$0")/scratch.sh"
 
-mkdir -p "$room/crates"
-for crate in vs_base vs_columns; do
-    mkdir "$room/crates/$crate"
-    for part in src specs proofs; do
-        cp -R "$top/crates/$crate/$part" "$room/crates/$crate/"
-    done
-    grep "^$crate:" "$top/crates.txt" >> "$room/crates.txt"
-    # The tests are not needed, and take long to prove.
-    rm "$room/crates/$crate/src/tests.rt"
-    sed -i '/^#\[cfg(test)\]$/d; /^mod tests;$/d' "$room/crates/$crate/src/lib.rt"
-done
-echo "column_values: vs_base vs_columns" >> "$room/crates.txt"
-
-mkdir -p "$room/crates/column_values/src"
-cat > "$room/crates/column_values/src/main.rt" <<'PROGRAM'
+run_scratch column_values "vs_base vs_columns" vs_base vs_columns <<'PROGRAM'
 //! Times the texts of column values.
 #![tactic(auto)]
 
@@ -84,10 +67,3 @@ fn main(rt: HostRuntime) -> io::Result<()> {
     Ok(())
 }
 PROGRAM
-
-cd "$room/crates/column_values"
-rt fmt > /dev/null
-# The gate compares what a program prints; times differ, so the built program is run here.
-rt run > "$room/log" 2>&1 || true
-[ -x out/column_values ] || { tail -n 40 "$room/log"; exit 1; }
-out/column_values

@@ -1,27 +1,10 @@
 #!/usr/bin/env bash
 # Times a million calls of GtidSet::add and GtidSet::contains, in nanoseconds per call.
-# The program is made, proved and built in a folder of its own, and nothing of it stays.
 # Usage: bench/gtid_calls.sh
 set -eu
-top=$(cd "$(dirname "$0")/.." && pwd)
-room=$(mktemp -d)
-trap 'rm -rf "$room"' EXIT
+. "$(dirname "$0")/scratch.sh"
 
-mkdir -p "$room/crates"
-for crate in vs_base vs_gtid; do
-    mkdir "$room/crates/$crate"
-    for part in src specs proofs; do
-        cp -R "$top/crates/$crate/$part" "$room/crates/$crate/"
-    done
-    grep "^$crate:" "$top/crates.txt" >> "$room/crates.txt"
-    # The tests are not needed, and take long to prove.
-    rm "$room/crates/$crate/src/tests.rt"
-    sed -i '/^#\[cfg(test)\]$/d; /^mod tests;$/d' "$room/crates/$crate/src/lib.rt"
-done
-echo "gtid_calls: vs_base vs_gtid" >> "$room/crates.txt"
-
-mkdir -p "$room/crates/gtid_calls/src"
-cat > "$room/crates/gtid_calls/src/main.rt" <<'PROGRAM'
+run_scratch gtid_calls "vs_base vs_gtid" vs_base vs_gtid <<'PROGRAM'
 //! Times calls of GtidSet.
 #![tactic(auto)]
 
@@ -88,10 +71,3 @@ fn main(rt: HostRuntime) -> io::Result<()> {
     Ok(())
 }
 PROGRAM
-
-cd "$room/crates/gtid_calls"
-rt fmt > /dev/null
-# The gate compares what a program prints; times differ, so the built program is run here.
-rt run > "$room/log" 2>&1 || true
-[ -x out/gtid_calls ] || { tail -n 40 "$room/log"; exit 1; }
-out/gtid_calls

@@ -1,30 +1,11 @@
 #!/usr/bin/env bash
 # Times the reading and writing of 100,000 row events of 158 bytes with vs_proto, in MB/s: one by one,
 # and as the events of one message.
-# The program is made, proved and built in a folder of its own, and nothing of it stays.
 # Usage: bench/row_events.sh
 set -eu
-top=$(cd "$(dirname "$0")/.." && pwd)
-room=$(mktemp -d)
-trap 'rm -rf "$room"' EXIT
+. "$(dirname "$0")/scratch.sh"
 
-mkdir -p "$room/crates"
-for crate in vs_base vs_wire vs_proto; do
-    mkdir "$room/crates/$crate"
-    for part in src specs proofs; do
-        if [ -d "$top/crates/$crate/$part" ]; then
-            cp -R "$top/crates/$crate/$part" "$room/crates/$crate/"
-        fi
-    done
-    grep "^$crate:" "$top/crates.txt" >> "$room/crates.txt"
-    # The tests are not needed, and take long to prove.
-    rm "$room/crates/$crate/src/tests.rt"
-    sed -i '/^#\[cfg(test)\]$/d; /^mod tests;$/d' "$room/crates/$crate/src/lib.rt"
-done
-echo "row_events: vs_base vs_proto" >> "$room/crates.txt"
-
-mkdir -p "$room/crates/row_events/src"
-cat > "$room/crates/row_events/src/main.rt" <<'PROGRAM'
+run_scratch row_events "vs_base vs_proto" vs_base vs_wire vs_proto <<'PROGRAM'
 //! Times the reading and writing of row events.
 #![tactic(auto)]
 
@@ -97,10 +78,3 @@ fn main(rt: HostRuntime) -> io::Result<()> {
     Ok(())
 }
 PROGRAM
-
-cd "$room/crates/row_events"
-rt fmt > /dev/null
-# The gate compares what a program prints; times differ, so the built program is run here.
-rt run > "$room/log" 2>&1 || true
-[ -x out/row_events ] || { tail -n 40 "$room/log"; exit 1; }
-out/row_events
