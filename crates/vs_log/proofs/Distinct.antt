@@ -1,4 +1,4 @@
--- No GTID of a log stands twice, or lies in its base.
+-- No GTID of a log stands twice, or lies in its base, and the GTIDs of its front are never too many.
 use Rattle.std.proofs.Common.{◌≡◌, ℕ, false, List, [], ◌∷◌, refl, sym, subst, ◌∙◌}
 use Rattle.std.specs.Prelude.{◌⊎◌}
 use Rattle.std.specs.List.{AllByRecursion, list_any}
@@ -15,7 +15,7 @@ use Rattle.vs_binlog.specs.Heads.{Event}
 use Rattle.vs_log.specs.Table.{Rules}
 use Rattle.vs_log.specs.Meaning.{log_meant}
 use Rattle.vs_log.specs.Productions.{AreEntries, Begins, Means}
-use Rattle.vs_log.specs.Laws.{HasNewGtids}
+use Rattle.vs_log.specs.Laws.{FitAlong, HasNewGtids}
 use Rattle.vs_log.proofs.Follows.{means}
 
 -- the set lacks the entries' GTIDs
@@ -36,27 +36,27 @@ lacks_it known g (e ∷ es) a =
     let rest : list_any (λ f. same_gtid g f.gtid) es ≡ false = lacks_it known g es a.1 in
     or_from (same_gtid g e.gtid) (list_any (λ f. same_gtid g f.gtid) es) first rest
 
-new_ones : (rules : Rules) (known after : Position) (groups : List (List Event)) (es : List Entry) → AreEntries rules known groups es after → Lacks known es × HaveDistinctGtids es
-new_ones rules known after [] [] a = (tt, tt)
+abbrev NewIn : Position → List Entry → Type 0
+NewIn base es = Lacks base es × HaveDistinctGtids es × FitAlong base es
+
+new_ones : (rules : Rules) (known after : Position) (groups : List (List Event)) (es : List Entry) → AreEntries rules known groups es after → NewIn known es
+new_ones rules known after [] [] a = (tt, tt, tt)
 new_ones rules known after [] (e ∷ es) a = elim a [ ]
 new_ones rules known after (group ∷ groups) [] a = elim a [ ]
 new_ones rules known after (group ∷ groups) (e ∷ es) a =
     let rest = new_ones rules (added known e.gtid) after groups es a.2 in
-    ((a.1.lacks, lacks_before known e.gtid es rest.0), (lacks_it known e.gtid es rest.0, rest.1))
-
-abbrev NewIn : Position → List Entry → Type 0
-NewIn base es = Lacks base es × HaveDistinctGtids es
+    ((a.1.lacks, lacks_before known e.gtid es rest.0), (lacks_it known e.gtid es rest.0, rest.1), (a.1.few, rest.2))
 
 of_state : (rules : Rules) (events : List Event) (s : State) → Begins rules events s → NewIn s.base s.entries
-of_state rules [] s b = subst (λ z. NewIn z.base z.entries) (sym b) (tt, tt)
+of_state rules [] s b = subst (λ z. NewIn z.base z.entries) (sym b) (tt, tt, tt)
 of_state rules (e ∷ events) s b = new_ones rules s.base b.known b.log.groups s.entries b.log.are_entries
 
 of_log : (rules : Rules) (bytes : List ℕ) (log : Log) → Means rules bytes log → NewIn log.base log.entries
 of_log rules bytes log (◌⊎◌.inl parts) = subst (λ z. NewIn z.base z.entries) (sym parts.is) (of_state rules parts.events parts.state parts.begins)
-of_log rules bytes log (◌⊎◌.inr (◌⊎◌.inl short)) = subst (λ z. NewIn z.base z.entries) (sym short.2) (tt, tt)
-of_log rules bytes log (◌⊎◌.inr (◌⊎◌.inr none)) = subst (λ z. NewIn z.base z.entries) (sym none.1) (tt, tt)
+of_log rules bytes log (◌⊎◌.inr (◌⊎◌.inl short)) = subst (λ z. NewIn z.base z.entries) (sym short.2) (tt, tt, tt)
+of_log rules bytes log (◌⊎◌.inr (◌⊎◌.inr none)) = subst (λ z. NewIn z.base z.entries) (sym none.1) (tt, tt, tt)
 
 pub new_gtids : (rules : Rules) (bytes : List ℕ) → HasNewGtids (log_meant rules bytes)
 new_gtids rules bytes =
     let n = of_log rules bytes (log_meant rules bytes) (means rules bytes) in
-    record { distinct = n.1; lacking = n.0 }
+    record { distinct = n.1; lacking = n.0; few = n.2 }

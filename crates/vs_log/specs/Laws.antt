@@ -5,6 +5,7 @@ use Rattle.vs_base.specs.declared.Why.{Why}
 use Rattle.vs_gtid.specs.declared.Entry.{Entry}
 use Rattle.vs_gtid.specs.Logs.{Log, HaveDistinctGtids}
 use Rattle.vs_gtid.specs.Positions.{Position, has}
+use Rattle.vs_gtid.specs.Joins.{added}
 use Rattle.vs_log.specs.declared.state.State.{State}
 use Rattle.vs_binlog.specs.Heads.{Event}
 use Rattle.vs_log.specs.Table.{Rules, step}
@@ -52,7 +53,13 @@ pub record IsOfWholeLog (rules : Rules) (bytes : List ℕ) : Type 0 where
   -- what a whole log at the front has, comes first
   pub fronts : (front more : List ℕ) (base : Position) (es : List Entry) → bytes ≡ front ++ more → IsWholeLog rules front base es → (later : List Entry) × ((log_meant rules bytes).entries ≡ es ++ later)
 
--- no GTID of the log stands twice, or lies in the base
+-- with each entry's GTID in turn the set has at most 1,024 intervals
+abbrev pub FitAlong : Position → List Entry → Type 0
+FitAlong p [] = Unit {0}
+FitAlong p (e ∷ es) = (length (added p e.gtid) ≤ 1024) × FitAlong (added p e.gtid) es
+
+-- no GTID of the log stands twice, or lies in the base; and the base with the entries up to each one isn't too large
 pub record HasNewGtids (log : Log) : Type 0 where
   pub distinct : HaveDistinctGtids log.entries
   pub lacking : AllByRecursion (λ e. has log.base e.gtid ≡ false) log.entries
+  pub few : FitAlong log.base log.entries

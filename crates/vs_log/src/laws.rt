@@ -25,7 +25,8 @@ pub fn law_longest()
     ensures { (rules : Rules) (bytes : Items ℕ) → IsOfWholeLog rules bytes }
 {}
 
-/// No GTID of a log stands twice, or lies in its base.
+/// No GTID of a log stands twice, or lies in its base; and with the base, the GTIDs of its front never
+/// make a set of over 1,024 intervals.
 #[tactic(auto, using(crate::proofs::Distinct::new_gtids))]
 pub fn law_distinct()
     ensures { (rules : Rules) (bytes : Items ℕ) → HasNewGtids (log_meant rules bytes) }
