@@ -12,7 +12,7 @@ pub enum Got {
 }
 
 /// The log of a shard, as it is read from its front.
-pub trait Feed: Drop {
+pub trait Feed {
     ghost use Rattle.std.specs.Prelude.{
       ◌≡◌,
       ◌≤◌,
