@@ -1,0 +1,5 @@
+pub mod Keys
+pub mod Starts
+pub mod Entries
+pub mod Requests
+pub mod Refusals
