@@ -1,0 +1,6 @@
+pub mod Cells
+pub mod Kinds
+pub mod Lines
+pub mod Recordings
+pub mod Answers
+pub mod Pieces
