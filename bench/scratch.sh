@@ -16,8 +16,8 @@ run_scratch() {
         done
         grep "^$crate:" "$top/crates.txt" >> "$room/crates.txt"
         # The tests are not needed, and take long to prove.
-        rm "$room/crates/$crate/src/tests.rt"
-        sed -i '/^#\[cfg(test)\]$/d; /^mod tests;$/d' "$room/crates/$crate/src/lib.rt"
+        rm -f "$room/crates/$crate/src/"*tests.rt
+        sed -i '/^#\[cfg(test)\]$/d; /^mod [a-z_]*tests;$/d' "$room/crates/$crate/src/lib.rt"
     done
     echo "$name: $libraries" >> "$room/crates.txt"
     mkdir -p "$room/crates/$name/src"
