@@ -15,6 +15,8 @@ import time
 TOP = os.path.dirname(os.path.dirname(os.path.abspath(__file__)))
 CRATE = os.path.join(TOP, "crates", "vs_command")
 UUID = bytes(15) + b"\x01"
+# a request for c/0 behind no transaction
+REQUEST = bytes.fromhex("00000014 0a12 0a10 0a0163 120130 1a08") + b"MySQL56/"
 TEXT = b"alter table customer comment = '" + b"x" * 160 + b"'"
 
 
@@ -49,7 +51,7 @@ def run_once(program, folder, output):
     start = time.monotonic()
     with open(output, "wb") as sink:
         child = subprocess.Popen([program, "stream", folder], stdin=subprocess.PIPE, stdout=sink)
-        child.stdin.write(b"c/0 MySQL56/\n")
+        child.stdin.write(REQUEST)
         child.stdin.close()
         _, status, usage = os.wait4(child.pid, 0)
     return time.monotonic() - start, os.waitstatus_to_exitcode(status), usage.ru_maxrss

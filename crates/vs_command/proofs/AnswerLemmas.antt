@@ -24,8 +24,8 @@ use Rattle.vs_command.specs.declared.start.Start.{Start}
 use Rattle.vs_command.specs.declared.start.Start.TheVariants.{At, Current}
 use Rattle.vs_command.specs.Sending.{IsNextTooLarge, vector_at, position_after, entry_frames}
 use Rattle.vs_command.specs.Laws.{AreBuilt, LawOfNewGtids, Laws}
-use Rattle.vs_command.specs.Line.{Asks}
-use Rattle.vs_command.specs.Streaming.Headline.{asked}
+use Rattle.vs_command.specs.Requests.{Asks}
+use Rattle.vs_command.specs.Streaming.Headline.{asked, silent}
 use Rattle.vs_command.specs.Streaming.Outcome.{unread, answers}
 use Rattle.vs_command.specs.Streaming.{Answers, Headline, HasCause, HasLogCause, HasSentAll, IsStart, IsStreamed, IsStreamedFrom, IsUnread, Outcome, cluster_meant, shard_log, start_at, takes_all}
 use Rattle.vs_command.proofs.LegalLemmas.{after_all, after_built, steps_sent, copies_sent, last_sent, due_all, stop_none}
@@ -115,6 +115,7 @@ caused laws cluster s distinct built p sent rest (statuses.PositionTooLarge name
 caused laws cluster s distinct built p sent rest statuses.LinkFault are cause = cause
 caused laws cluster s distinct built p sent rest statuses.Memory are cause = tt
 caused laws cluster s distinct built p sent rest statuses.Usage are cause = absurd cause
+caused laws cluster s distinct built p sent rest (statuses.BadFrame number frame_why) are cause = absurd cause
 caused laws cluster s distinct built p sent rest (statuses.Request fault) are cause = absurd cause
 caused laws cluster s distinct built p sent rest (statuses.UnknownShard name) are cause = absurd cause
 caused laws cluster s distinct built p sent rest (statuses.FeedFault name) are cause = absurd cause
@@ -184,18 +185,36 @@ pub told_so : (P Q : ClusterBytes → Type 0) (told : Option ClusterBytes) → (
 told_so P Q None f p = tt
 told_so P Q (Some c) f p = f c p
 
--- what answers the line that is asked is the headline
-pub headline_asked : (told_before told : Option ClusterBytes) (left : Option (List ℕ)) (name : ShardName) (start : Start) (waits_before waits waits_now : ShardName → ℕ)
-    (status : Status) (before now : Option (List ℕ)) → told ≡ told_before → waits name ≡ waits_before name → IfSome left (λ input. Asks input name start) →
-    IfSome told (λ c. Writes before now (Outcome c name start (Rose (waits name) (waits_now name)) status)) →
-    IfSome told_before (λ c. IfSome left (λ input. Writes before now (Headline c (λ n. Rose (waits_before n) (waits_now n)) input status)))
-headline_asked told_before told left name start waits_before waits waits_now status before now same steady asks wrote =
-    told_so (λ c. Writes before now (Outcome c name start (Rose (waits name) (waits_now name)) status)) (λ c. IfSome left (λ input. Writes before now (Headline c (λ n. Rose (waits_before n) (waits_now n)) input status))) told_before
-    (λ c w. each left asks c w) (subst (λ t. IfSome t (λ c. Writes before now (Outcome c name start (Rose (waits name) (waits_now name)) status))) same wrote)
+-- what answers the request is the headline
+pub headline_asked : (told : Option ClusterBytes) (left : Option (List ℕ)) (name : ShardName) (start : Start) (waited : ShardName → Type 0) (status : Status) (before now : Option (List ℕ)) →
+    IfSome left (λ input. Asks input name start) → IfSome told (λ c. Writes before now (Outcome c name start (waited name) status)) →
+    IfSome told (λ c. IfSome left (λ input. Writes before now (Headline c waited input status)))
+headline_asked told left name start waited status before now asks wrote =
+    told_so (λ c. Writes before now (Outcome c name start (waited name) status)) (λ c. IfSome left (λ input. Writes before now (Headline c waited input status))) told (λ c w. each left asks c w) wrote
   where
-    each : (left : Option (List ℕ)) → IfSome left (λ input. Asks input name start) → (c : ClusterBytes) → Writes before now (Outcome c name start (Rose (waits name) (waits_now name)) status) →
-        IfSome left (λ input. Writes before now (Headline c (λ n. Rose (waits_before n) (waits_now n)) input status))
+    each : (left : Option (List ℕ)) → IfSome left (λ input. Asks input name start) → (c : ClusterBytes) → Writes before now (Outcome c name start (waited name) status) →
+        IfSome left (λ input. Writes before now (Headline c waited input status))
     each None asks c w = tt
     each (Some input) asks c w =
-        Writes-weaken (Outcome c name start (Rose (waits name) (waits_now name)) status) (Headline c (λ n. Rose (waits_before n) (waits_now n)) input status) before now
-        (λ bytes o. asked name start asks (subst (λ n. Outcome c name start (Rose n (waits_now name)) status bytes) steady o)) w
+        Writes-weaken (Outcome c name start (waited name) status) (Headline c waited input status) before now (λ bytes o. asked name start asks o) w
+
+-- whether a feed waited, counted from before
+pub headline_moved : (c : ClusterBytes) (waited moved : ShardName → Type 0) (input : List ℕ) (status : Status) (written : List ℕ) → ((n : ShardName) → waited n ≡ moved n) →
+    Headline c waited input status written → Headline c moved input status written
+headline_moved c waited moved input status written same (asked name start asks outcome) = asked name start asks (subst (λ w. Outcome c name start w status written) (same name) outcome)
+headline_moved c waited moved input status written same (silent none before) = silent none before
+
+pub headline_told : (told_before told : Option ClusterBytes) (left : Option (List ℕ)) (waits_before waits waits_now : ShardName → ℕ) (status : Status) (before now : Option (List ℕ)) →
+    told ≡ told_before → ((n : ShardName) → waits n ≡ waits_before n) → IfSome told (λ c. IfSome left (λ input. Writes before now (Headline c (λ n. Rose (waits n) (waits_now n)) input status))) →
+    IfSome told_before (λ c. IfSome left (λ input. Writes before now (Headline c (λ n. Rose (waits_before n) (waits_now n)) input status)))
+headline_told told_before told left waits_before waits waits_now status before now same steady wrote =
+    told_so (λ c. IfSome left (λ input. Writes before now (Headline c (λ n. Rose (waits n) (waits_now n)) input status)))
+    (λ c. IfSome left (λ input. Writes before now (Headline c (λ n. Rose (waits_before n) (waits_now n)) input status))) told_before (λ c w. each left c w)
+    (subst (λ t. IfSome t (λ c. IfSome left (λ input. Writes before now (Headline c (λ n. Rose (waits n) (waits_now n)) input status)))) same wrote)
+  where
+    each : (left : Option (List ℕ)) (c : ClusterBytes) → IfSome left (λ input. Writes before now (Headline c (λ n. Rose (waits n) (waits_now n)) input status)) →
+        IfSome left (λ input. Writes before now (Headline c (λ n. Rose (waits_before n) (waits_now n)) input status))
+    each None c w = tt
+    each (Some input) c w =
+        Writes-weaken (Headline c (λ n. Rose (waits n) (waits_now n)) input status) (Headline c (λ n. Rose (waits_before n) (waits_now n)) input status) before now
+        (λ bytes h. headline_moved c (λ n. Rose (waits n) (waits_now n)) (λ n. Rose (waits_before n) (waits_now n)) input status bytes (λ n. ap (λ k. Rose k (waits_now n)) (steady n)) h) w

@@ -1,8 +1,12 @@
 pub mod SendLemmas
+pub mod FitLemmas
+pub mod CauseLemmas
 pub mod LegalLemmas
 pub mod AnswerLemmas
 pub mod StreamLemmas
 pub mod FetchLemmas
 pub mod WordLemmas
-pub mod LineLemmas
+pub mod RequestLemmas
+pub mod SaidLemmas
+pub mod DueLemmas
 pub mod OpeningLemmas

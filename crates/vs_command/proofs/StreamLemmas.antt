@@ -32,7 +32,7 @@ pub record IsReadOf (s : ShardName) (bytes keyspace : List ℕ) (read : LogRead)
   pub is_start : IsStart (read_as read) start whole p
   pub canonical : IsCanonical p
 
-means_log : (s : ShardName) (bytes keyspace : List ℕ) (read : LogRead) (start : Start) (whole : Type 0) (p : Position) → IsReadOf s bytes keyspace read start whole p → read_as read ≡ shard_log s bytes
+pub means_log : (s : ShardName) (bytes keyspace : List ℕ) (read : LogRead) (start : Start) (whole : Type 0) (p : Position) → IsReadOf s bytes keyspace read start whole p → read_as read ≡ shard_log s bytes
 means_log s bytes keyspace read start whole p is = is.read_is ∙ ap (λ k. log_meant (rules_of k) bytes) is.same
 
 streamed_from : (s : ShardName) (bytes keyspace : List ℕ) (read : LogRead) (start : Start) (whole : Type 0) (p : Position) (status : Status) (w : List ℕ) →
@@ -101,7 +101,7 @@ Writes-refused s bytes keyspace read start whole p entries end status before now
     })) wrote
 
 -- what the end of a log says, where all was sent
-abbrev IsEndOf : ShardName → Log → Status → Type 0
+abbrev pub IsEndOf : ShardName → Log → Status → Type 0
 IsEndOf s log statuses.Done = log.fault ≡ None
 IsEndOf s log (statuses.BadLog name offset why) = (name ≡ s) × (log.fault ≡ Some (offset, why))
 IsEndOf s log status = ⊥
@@ -111,6 +111,7 @@ ended_cause s log p sent rest statuses.Done base none end = (none, base, end)
 ended_cause s log p sent rest (statuses.BadLog name offset why) base none end = (end.0, end.1, none, base)
 ended_cause s log p sent rest statuses.Memory base none end = absurd end
 ended_cause s log p sent rest statuses.Usage base none end = absurd end
+ended_cause s log p sent rest (statuses.BadFrame number frame_why) base none end = absurd end
 ended_cause s log p sent rest (statuses.Request fault) base none end = absurd end
 ended_cause s log p sent rest (statuses.UnknownShard name) base none end = absurd end
 ended_cause s log p sent rest (statuses.Purged name missing) base none end = absurd end

@@ -1,5 +1,5 @@
--- The laws of the crates below on which the headline stands, as their functions ensure them.
-use Rattle.std.specs.Prelude.{◌≡◌, ℕ, List, ◌++◌}
+-- The laws of the crates below on which the headline and the causes of answers stand, as their functions ensure them.
+use Rattle.std.specs.Prelude.{◌≡◌, ℕ, List, ◌++◌, Result}
 use Rattle.std.specs.List.{AllByRecursion}
 use Rattle.vs_base.specs.declared.ShardName.{ShardName}
 use Rattle.vs_gtid.specs.declared.Entry.{Entry}
@@ -9,6 +9,10 @@ use Rattle.vs_log.specs.Table.{Rules}
 use Rattle.vs_log.specs.Laws.{HasNewGtids}
 use Rattle.vs_log.specs.Meaning.{log_meant}
 use Rattle.vs_entries.specs.Rules.{rules_of, IsBuilt}
+use Rattle.vs_frame.specs.Frames.{Begins, HasNone, IsPart, IsTooLong}
+use Rattle.vs_request.specs.Requests.{Says}
+use Rattle.vs_request.specs.declared.request.Request.{Request}
+use Rattle.vs_request.specs.declared.refusal.RequestRefusal.{RequestRefusal}
 use Rattle.vs_model.specs.Logs.{Cluster, LogsAreDistinct, due, stop, IsPositionAfter}
 use Rattle.vs_model.specs.Vectors.{Vector}
 use Rattle.vs_model.specs.Frames.{Frame}
@@ -42,6 +46,9 @@ AreBuilt es = AllByRecursion (λ (e : Entry). IsBuilt e.work) es
 abbrev pub LawOfBuilt : Type 0
 LawOfBuilt = (keyspace bytes : List ℕ) → AreBuilt (log_meant (rules_of keyspace) bytes).entries
 
+abbrev pub LawOfRequests : Type 0
+LawOfRequests = (bytes : List ℕ) (r s : Result Request RequestRefusal) → Says bytes r → Says bytes s → r ≡ s
+
 pub record Laws : Type 0 where
   pub transactions : LawOfTransactions
   pub due : LawOfDue
@@ -49,3 +56,9 @@ pub record Laws : Type 0 where
   pub steps : LawOfSteps
   pub new_gtids : LawOfNewGtids
   pub built : LawOfBuilt
+  pub requests : LawOfRequests
+  pub part : (bytes : List ℕ) → IsPart bytes → HasNone bytes
+  pub part_fits : (bytes : List ℕ) (n : ℕ) → IsPart bytes → ¬ (IsTooLong bytes n)
+  pub too_long : (bytes : List ℕ) (n : ℕ) → IsTooLong bytes n → HasNone bytes
+  pub one_length : (bytes : List ℕ) (n m : ℕ) → IsTooLong bytes n → IsTooLong bytes m → n ≡ m
+  pub one_frame : (bytes m n rest left : List ℕ) → Begins bytes m rest → Begins bytes n left → (m ≡ n) × (rest ≡ left)

@@ -1,8 +1,10 @@
 pub mod Spelling
-pub mod Line
+pub mod Requests
 pub mod Sending
 pub mod Streaming
 pub mod Words
 pub mod Laws
+pub mod Causes
+pub mod Showing
 pub mod StatusTexts
 pub mod Openings

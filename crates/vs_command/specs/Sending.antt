@@ -57,6 +57,10 @@ abbrev pub IsNextTooLarge : Position → List Entry → Type 0
 IsNextTooLarge p [] = ⊥
 IsNextTooLarge p (e ∷ rest) = 1024 < length (added p e.gtid)
 
+-- one of the entries makes a position of over 1,024 intervals, behind those before it
+abbrev pub IsTooLargeAlong : Position → List Entry → Type 0
+IsTooLargeAlong p entries = (sent rest : List Entry) × (entries ≡ sent ++ rest) × IsNextTooLarge (position_after p sent) rest
+
 -- What was written as the frames of entries were to be sent: those of the first entries, and where the link failed a beginning of them.
 pub record AreSent (s : ShardName) (p : Position) (entries : List Entry) (result : Result (Unit {0}) SendEnd) (w : List ℕ) : Type 0 where
   pub sent : List Entry

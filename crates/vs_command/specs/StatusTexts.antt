@@ -4,12 +4,14 @@ use Rattle.vs_base.specs.declared.ShardName.{ShardName}
 use Rattle.vs_base.specs.declared.Why.{Why}
 use Rattle.vs_base.specs.declared.Why.TheVariants.{BadMagic, NoFormat, BadVersion, Checksummed, BadLength, BadEvent, BadOrder, NestedBegin, Anonymous, BadGtid, RepeatedGtid, Unsupported, UnsupportedStatement, TooLarge, TooManyIntervals, JournalNotAlone}
 use Rattle.vs_base.specs.declared.Why as why
+use Rattle.vs_frame.specs.declared.refusal.FrameWhy.{FrameWhy}
+use Rattle.vs_frame.specs.declared.refusal.FrameWhy.TheVariants.{Cut, TooLong, Message}
 use Rattle.vs_gtid.specs.Joins.{added}
 use Rattle.vs_gtid.specs.Text.{set_text}
 use Rattle.vs_command.specs.declared.status.RequestFault.{RequestFault}
 use Rattle.vs_command.specs.declared.status.RequestFault.TheVariants as fault
 use Rattle.vs_command.specs.declared.status.Status.{Status}
-use Rattle.vs_command.specs.declared.status.Status.TheVariants.{Done, Memory, Usage, Request, UnknownShard, Purged, BadLog, FeedFault, LinkFault, InputFault, OpenFault, PositionTooLarge}
+use Rattle.vs_command.specs.declared.status.Status.TheVariants.{Done, Memory, Usage, Request, UnknownShard, Purged, BadLog, FeedFault, LinkFault, InputFault, OpenFault, PositionTooLarge, BadFrame}
 
 -- the number that tells the ends apart, as the program's exit status
 unfoldable pub status_number : Status → ℕ
@@ -25,6 +27,7 @@ status_number LinkFault = 10
 status_number InputFault = 11
 status_number (OpenFault name) = 12
 status_number (PositionTooLarge name) = 14
+status_number (BadFrame number frame_why) = 17
 
 -- a shard under its keyspace: `keyspace/shard`
 abbrev pub name_text : ShardName → List ℕ
@@ -52,8 +55,24 @@ why_text why.TheVariants.NotBuilt = codes "not built"
 
 -- what is wrong with a request: the fault's name, and its numbers
 abbrev pub fault_text : RequestFault → List ℕ
-fault_text (fault.NotBuilt index) = codes "NotBuilt " ++ decimal index
+fault_text (fault.Cut held) = codes "Cut " ++ decimal held
+fault_text (fault.TooLong size) = codes "TooLong " ++ decimal size
+fault_text (fault.Message why) = codes "Message"
+fault_text fault.NoShards = codes "NoShards"
+fault_text (fault.TooManyShards n) = codes "TooManyShards " ++ decimal n
+fault_text (fault.BadName index) = codes "BadName " ++ decimal index
 fault_text (fault.BadPosition index at) = codes "BadPosition " ++ (decimal index ++ (codes " " ++ decimal at))
+fault_text (fault.NeedsShard index) = codes "NeedsShard " ++ decimal index
+fault_text (fault.TooManyKeys index) = codes "TooManyKeys " ++ decimal index
+fault_text (fault.LongKey index) = codes "LongKey " ++ decimal index
+fault_text (fault.TooManyRules n) = codes "TooManyRules " ++ decimal n
+fault_text (fault.NotBuilt index) = codes "NotBuilt " ++ decimal index
+
+-- what is wrong with a frame
+abbrev pub frame_why_text : FrameWhy → List ℕ
+frame_why_text Cut = codes ": cut"
+frame_why_text TooLong = codes ": too long"
+frame_why_text Message = codes ": message"
 
 -- The line that tells how a session ended, without its line feed. Of one that is done it is empty.
 unfoldable pub status_line : Status → List ℕ
@@ -69,3 +88,4 @@ status_line LinkFault = codes "link fault"
 status_line InputFault = codes "input fault"
 status_line (OpenFault name) = codes "open fault " ++ name_text name
 status_line (PositionTooLarge name) = codes "position too large " ++ name_text name
+status_line (BadFrame number frame_why) = codes "bad frame " ++ (decimal number ++ frame_why_text frame_why)

@@ -18,10 +18,10 @@ use Rattle.vs_model.specs.Legal.{Legal}
 use Rattle.vs_model.specs.Reached.{IsSettled}
 use Rattle.vs_model.specs.Requests.{First, OneShard, StartAt, From, FromEnd}
 use Rattle.vs_command.specs.declared.status.Status.{Status}
-use Rattle.vs_command.specs.declared.status.Status.TheVariants.{Done, Memory, Usage, Request, UnknownShard, Purged, BadLog, FeedFault, LinkFault, InputFault, OpenFault, PositionTooLarge}
+use Rattle.vs_command.specs.declared.status.Status.TheVariants.{Done, Memory, Usage, Request, UnknownShard, Purged, BadLog, FeedFault, LinkFault, InputFault, OpenFault, PositionTooLarge, BadFrame}
 use Rattle.vs_command.specs.declared.start.Start.{Start}
 use Rattle.vs_command.specs.declared.start.Start.TheVariants.{At, Current}
-use Rattle.vs_command.specs.Line.{Asks}
+use Rattle.vs_command.specs.Requests.{Asks}
 use Rattle.vs_command.specs.Sending.{AreSpelled, IsCanonicalAlong, IsNextTooLarge, position_after, vector_at}
 use Rattle.vs_command.specs.Spelling.{frames_bytes}
 
@@ -63,6 +63,7 @@ HasCause cluster s p frames (PositionTooLarge name) = (name ≡ s) × IsNextDueT
 HasCause cluster s p frames LinkFault = IsSubset (log_of cluster s).base p
 HasCause cluster s p frames Memory = Unit {0}
 HasCause cluster s p frames Usage = ⊥
+HasCause cluster s p frames (BadFrame number frame_why) = ⊥
 HasCause cluster s p frames (Request fault) = ⊥
 HasCause cluster s p frames (UnknownShard name) = ⊥
 HasCause cluster s p frames (FeedFault name) = ⊥
@@ -72,6 +73,7 @@ HasCause cluster s p frames (OpenFault name) = ⊥
 -- the answers of a stream, once its request was read
 abbrev pub IsOfStream : Status → Type 0
 IsOfStream Usage = ⊥
+IsOfStream (BadFrame number frame_why) = ⊥
 IsOfStream (Request fault) = ⊥
 IsOfStream InputFault = ⊥
 IsOfStream Done = Unit {0}
@@ -93,6 +95,7 @@ IsOfLog (BadLog name offset why) = Unit {0}
 IsOfLog LinkFault = Unit {0}
 IsOfLog (PositionTooLarge name) = Unit {0}
 IsOfLog Usage = ⊥
+IsOfLog (BadFrame number frame_why) = ⊥
 IsOfLog (Request fault) = ⊥
 IsOfLog InputFault = ⊥
 IsOfLog (UnknownShard name) = ⊥
@@ -102,6 +105,7 @@ IsOfLog (OpenFault name) = ⊥
 -- the answers that come before a stream begins
 abbrev pub IsBeforeStream : Status → Type 0
 IsBeforeStream Usage = Unit {0}
+IsBeforeStream (BadFrame number frame_why) = ⊥
 IsBeforeStream (Request fault) = Unit {0}
 IsBeforeStream InputFault = Unit {0}
 IsBeforeStream Memory = Unit {0}
@@ -114,13 +118,14 @@ IsBeforeStream LinkFault = ⊥
 IsBeforeStream (OpenFault name) = ⊥
 IsBeforeStream (PositionTooLarge name) = ⊥
 
--- the answers that come where the log of the shard was not read
+-- The answers that come where no stream of the shard began: its log was not read, or memory ran out before the start was known.
 abbrev pub IsUnread : ClusterBytes → ShardName → Status → Type 0
 IsUnread cluster s (UnknownShard name) = (name ≡ s) × (find_shard cluster s ≡ None)
 IsUnread cluster s (FeedFault name) = name ≡ s
 IsUnread cluster s (OpenFault name) = name ≡ s
 IsUnread cluster s Memory = Unit {0}
 IsUnread cluster s Usage = ⊥
+IsUnread cluster s (BadFrame number frame_why) = ⊥
 IsUnread cluster s (Request fault) = ⊥
 IsUnread cluster s (Purged name missing) = ⊥
 IsUnread cluster s (BadLog name offset why) = ⊥
@@ -144,7 +149,7 @@ pub record Answers (cluster : ClusterBytes) (name : ShardName) (start : Start) (
   pub whole : status ≢ LinkFault → written ≡ bytes
   pub cause : HasCause (cluster_meant cluster) name p frames status
 
--- A shard was asked for: its log was not read, and nothing was written; or what was written answers.
+-- A shard was asked for: no stream of it began, and nothing was written; or what was written answers.
 pub data Outcome (cluster : ClusterBytes) (name : ShardName) (start : Start) (waited : Type 0) (status : Status) (written : List ℕ) : Type 0 where
   unread : written ≡ [] → IsUnread cluster name status → Outcome cluster name start waited status written
   answers : Answers cluster name start waited status written → Outcome cluster name start waited status written
@@ -163,6 +168,7 @@ HasLogCause s log p sent rest (PositionTooLarge name) = (name ≡ s) × IsNextTo
 HasLogCause s log p sent rest LinkFault = IsSubset log.base p
 HasLogCause s log p sent rest Memory = Unit {0}
 HasLogCause s log p sent rest Usage = ⊥
+HasLogCause s log p sent rest (BadFrame number frame_why) = ⊥
 HasLogCause s log p sent rest (Request fault) = ⊥
 HasLogCause s log p sent rest (UnknownShard name) = ⊥
 HasLogCause s log p sent rest (FeedFault name) = ⊥
@@ -188,7 +194,7 @@ IsStreamedFrom s log start whole status written =
     ((status ≡ Memory) × (written ≡ []))
     ⊎ ((p : Position) × IsStart log start whole p × IsCanonical p × IsStreamed s log p status written)
 
--- The headline: what is written answers the line at the front of the input, or nothing is written and the answer came before any stream.
+-- The headline: what is written answers the request frame at the front of the input, or nothing is written and the answer came before any stream.
 -- `waited` says of a shard that its feed had nothing yet in the call.
 pub data Headline (cluster : ClusterBytes) (waited : ShardName → Type 0) (input : List ℕ) (status : Status) (written : List ℕ) : Type 0 where
   asked : (name : ShardName) (start : Start) → Asks input name start → Outcome cluster name start (waited name) status written → Headline cluster waited input status written

@@ -1,10 +1,13 @@
-//! The program `vstreamd`: the change stream of a shard, on standard output.
+//! The program `vstreamd`: the change stream of a shard on standard output, and a recorded one as lines.
 #![tactic(auto)]
 
+mod connection;
 mod fetch;
 mod frame;
 mod host;
-mod line;
+mod options;
+mod plain;
+mod request;
 mod run;
 mod sending;
 mod start;
@@ -14,6 +17,7 @@ mod streaming;
 mod tests;
 
 use crate::host::{FolderTablets, HostClock, StdSink, StdSource};
+use crate::plain::run_plain;
 use crate::run::run;
 use crate::status::Status;
 use std::alloc::Global;
@@ -27,6 +31,14 @@ fn words_of<R: std::rt::Env + AllocGlobal>(rt: &R) -> io::Result<Vec<String>> {
         words.push(word)?;
     }
     Ok(words)
+}
+
+/// Whether the first word is that of a command which waits for nobody.
+fn is_plain(words: &[String]) -> bool {
+    match words.first() {
+        Some(word) => word.as_str() == "show",
+        None => false,
+    }
 }
 
 /// Prints why the session did not end well.
@@ -45,15 +57,19 @@ fn main(rt: HostRuntime) -> io::Result<ExitCode> {
     let mut tablets = FolderTablets::new(rt.clone()?, alloc);
     let mut clock = HostClock::new(rt.clone()?);
     let words = words_of(&rt).unwrap_or(Vec::new(alloc));
-    let status = run(
-        &rt,
-        alloc,
-        &words,
-        &mut input,
-        &mut output,
-        &mut tablets,
-        &mut clock,
-    );
+    let status = if is_plain(&words) {
+        run_plain(alloc, &words, &mut input, &mut output, &mut tablets)
+    } else {
+        run(
+            &rt,
+            alloc,
+            &words,
+            &mut input,
+            &mut output,
+            &mut tablets,
+            &mut clock,
+        )
+    };
     let number = status.number();
     if number != 0 {
         tell(&rt, alloc, &status);

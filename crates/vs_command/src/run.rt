@@ -1,22 +1,28 @@
-ghost use Rattle.std.specs.Prelude.{◌≡◌, ◌≤◌, ◌↔◌, List as Items, ℕ, IfSome, MatchOption, map};
+ghost use Rattle.std.specs.Prelude.{
+  ◌≡◌,
+  ◌≤◌,
+  ◌⊎◌,
+  ℕ,
+  List as Items,
+  IfSome,
+  MatchOption,
+};
+ghost use Rattle.vs_base.specs.declared.Gtid.{Gtid};
 ghost use Rattle.vs_base.specs.declared.ShardName.{ShardName};
-ghost use Rattle.vs_outside.specs.Clusters.{find_shard};
+ghost use Rattle.vs_base.specs.declared.Why.{Why};
 ghost use Rattle.vs_outside.specs.Counts.{Rose};
 ghost use Rattle.vs_outside.specs.Told.{Writes};
-ghost use Rattle.vs_command.specs.Line.{HasForm, IsRefusedAt};
-ghost use Rattle.vs_command.specs.Streaming.{Headline, IsOfStream, Outcome};
+ghost use Rattle.vs_command.specs.declared.status.RequestFault.{RequestFault};
+ghost use Rattle.vs_command.specs.Causes.{AnswersLog, HasRead, IsOutside, IsUnknown};
+ghost use Rattle.vs_command.specs.Requests.{IsFaultOf};
+ghost use Rattle.vs_command.specs.Streaming.{Headline};
 ghost use Rattle.vs_command.specs.Words.{AreStreamWords};
-ghost use Rattle.vs_command.specs.Laws.{Laws};
 
-use crate::fetch::{FetchEnd, fetch_log};
-use crate::line::{Asked, LineEnd, read_request};
-use crate::status::{RequestFault, Status};
-use crate::streaming::stream_log;
+use crate::connection::connection;
+use crate::options::Options;
+use crate::status::Status;
 use std::alloc::Global;
 use std::sync::Wait;
-use vs_entries::law_built;
-use vs_log::law_distinct;
-use vs_model::{law_due, law_frames, law_steps};
 use vs_outside::{Clock, Sink, Source, Tablets};
 
 /// The folder of the words `stream FOLDER`.
@@ -35,46 +41,12 @@ fn folder_of(words: &[String]) -> Option<&str>
     }
 }
 
-/// The laws of the crates below, on which the headline stands.
-fn laws()
-    ensures { Laws }
-{
-    law_steps();
-    law_frames();
-    law_due();
-    law_distinct();
-    law_built();
-}
-
-/// Streams a shard of the tablets, from a start to the end of its log.
-fn stream_shard<R: Wait, O: Sink, T: Tablets>(
-    rt: &R,
-    alloc: Global,
-    asked: Asked,
-    output: &mut O,
-    tablets: &mut T,
-) -> Status
-    ensures answers { IfSome (T.cluster tablets.old) (λ c. Writes (O.sent output.old) (O.sent output.new) (Outcome c asked.name asked.start (Rose (T.waits tablets.old asked.name) (T.waits tablets.new asked.name)) result)) }
-    ensures kind { IsOfStream result }
-    ensures link { result ≡ Status.LinkFault → Rose (O.faults output.old) (O.faults output.new) }
-    ensures feed { (n : ShardName) → result ≡ Status.FeedFault n → Rose (T.faults tablets.old n) (T.faults tablets.new n) }
-    ensures opening { (n : ShardName) → result ≡ Status.OpenFault n → Rose (T.open_faults tablets.old n) (T.open_faults tablets.new n) }
-{
-    laws();
-    let Asked { name, start } = asked;
-    match fetch_log(rt, alloc, tablets, &name) {
-        Ok(Some(fetched)) => stream_log(alloc, output, name, start, &fetched),
-        Ok(None) => Status::UnknownShard { name },
-        Err(FetchEnd::Memory) => Status::Memory,
-        Err(FetchEnd::OpenFault) => Status::OpenFault { name },
-        Err(FetchEnd::FeedFault) => Status::FeedFault { name },
-    }
-}
-
-/// The program's stream: reads the words `stream FOLDER` and a request line from the input, and
+/// The program's stream: reads the words `stream FOLDER` and a request frame from the input, and
 /// writes a frame for each transaction of the shard that the position lacks to the output.
 ///
-/// The headline holds where the tablets tell their cluster and the input and the output their bytes.
+/// The headline holds where the tablets tell their cluster and the input and the output their bytes;
+/// each clause on an answer where those that it names are told. An answer that is due comes, but for
+/// one that is brought from outside.
 pub fn run<R: Wait, I: Source, O: Sink, T: Tablets, C: Clock>(
     rt: &R,
     alloc: Global,
@@ -82,15 +54,32 @@ pub fn run<R: Wait, I: Source, O: Sink, T: Tablets, C: Clock>(
     input: &mut I,
     output: &mut O,
     tablets: &mut T,
-    _clock: &mut C,
+    clock: &mut C,
 ) -> Status
     ensures headline { IfSome (T.cluster tablets.old) (λ c. IfSome (I.left input.old) (λ bytes. Writes (O.sent output.old) (O.sent output.new) (Headline c (λ n. Rose (T.waits tablets.old n) (T.waits tablets.new n)) bytes result))) }
 
-    // when each answer comes
+    // the words
     ensures usage { result ≡ Status.Usage → (folder : Items ℕ) → AreStreamWords words.now folder → ⊥ }
     ensures words { ((folder : Items ℕ) → AreStreamWords words.now folder → ⊥) → result ≡ Status.Usage }
-    ensures request { (index : ℕ) → result ≡ Status.Request (RequestFault.NotBuilt index) → (index ≡ 0) × IfSome (I.left input.old) (λ bytes. (name : ShardName) (text : Items ℕ) → HasForm bytes name text → ⊥) }
-    ensures position { (index at : ℕ) → result ≡ Status.Request (RequestFault.BadPosition index at) → (index ≡ 0) × IfSome (I.left input.old) (λ bytes. (name : ShardName) × (text : Items ℕ) × HasForm bytes name text × IsRefusedAt text at) }
+
+    // the request
+    ensures request { (fault : RequestFault) → result ≡ Status.Request fault → IfSome (I.left input.old) (λ bytes. IsFaultOf bytes fault) }
+    ensures request_when { (folder : Items ℕ) (fault : RequestFault) → AreStreamWords words.now folder → IfSome (I.left input.old) (λ bytes. IsFaultOf bytes fault → IsOutside result ⊎ (result ≡ Status.Request fault)) }
+    ensures taken { HasRead (I.left input.old) (I.left input.new) result }
+
+    // the shard and its log
+    ensures unknown { (name : ShardName) → result ≡ Status.UnknownShard name → IfSome (T.cluster tablets.old) (λ c. IfSome (I.left input.old) (λ bytes. IsUnknown c bytes name)) }
+    ensures unknown_when { (folder : Items ℕ) (name : ShardName) → AreStreamWords words.now folder → IfSome (T.cluster tablets.old) (λ c. IfSome (I.left input.old) (λ bytes. IsUnknown c bytes name → IsOutside result ⊎ (result ≡ Status.UnknownShard name))) }
+    ensures purged { (name : ShardName) (missing : Gtid) → result ≡ Status.Purged name missing → IfSome (T.cluster tablets.old) (λ c. IfSome (I.left input.old) (λ bytes. AnswersLog c bytes (Status.Purged name missing))) }
+    ensures purged_when { (folder : Items ℕ) (name : ShardName) (missing : Gtid) → AreStreamWords words.now folder → IfSome (T.cluster tablets.old) (λ c. IfSome (I.left input.old) (λ bytes. AnswersLog c bytes (Status.Purged name missing) → IsOutside result ⊎ (result ≡ Status.Purged name missing))) }
+    ensures bad_log { (name : ShardName) (offset : ℕ) (why : Why) → result ≡ Status.BadLog name offset why → IfSome (T.cluster tablets.old) (λ c. IfSome (I.left input.old) (λ bytes. AnswersLog c bytes (Status.BadLog name offset why))) }
+    ensures bad_log_when { (folder : Items ℕ) (name : ShardName) (offset : ℕ) (why : Why) → AreStreamWords words.now folder → IfSome (T.cluster tablets.old) (λ c. IfSome (I.left input.old) (λ bytes. AnswersLog c bytes (Status.BadLog name offset why) → IsOutside result ⊎ (result ≡ Status.BadLog name offset why))) }
+    ensures too_large { (name : ShardName) → result ≡ Status.PositionTooLarge name → IfSome (T.cluster tablets.old) (λ c. IfSome (I.left input.old) (λ bytes. AnswersLog c bytes (Status.PositionTooLarge name))) }
+    ensures too_large_when { (folder : Items ℕ) (name : ShardName) → AreStreamWords words.now folder → IfSome (T.cluster tablets.old) (λ c. IfSome (I.left input.old) (λ bytes. AnswersLog c bytes (Status.PositionTooLarge name) → IsOutside result ⊎ (result ≡ Status.PositionTooLarge name))) }
+    ensures done { result ≡ Status.Done → IfSome (T.cluster tablets.old) (λ c. IfSome (I.left input.old) (λ bytes. AnswersLog c bytes Status.Done)) }
+    ensures done_when { (folder : Items ℕ) → AreStreamWords words.now folder → IfSome (T.cluster tablets.old) (λ c. IfSome (I.left input.old) (λ bytes. AnswersLog c bytes Status.Done → IsOutside result ⊎ (result ≡ Status.Done))) }
+
+    // what is outside
     ensures link { result ≡ Status.LinkFault → Rose (O.faults output.old) (O.faults output.new) }
     ensures input { result ≡ Status.InputFault → Rose (I.faults input.old) (I.faults input.new) }
     ensures feed { (name : ShardName) → result ≡ Status.FeedFault name → Rose (T.faults tablets.old name) (T.faults tablets.new name) }
@@ -102,13 +91,9 @@ pub fn run<R: Wait, I: Source, O: Sink, T: Tablets, C: Clock>(
     if tablets.point(alloc, folder).is_err() {
         return Status::Memory;
     }
-    match read_request(alloc, input) {
-        Ok(asked) => stream_shard(rt, alloc, asked, output, tablets),
-        Err(LineEnd::Memory) => Status::Memory,
-        Err(LineEnd::InputFault) => Status::InputFault,
-        Err(LineEnd::NotBuilt) => Status::Request(RequestFault::NotBuilt { index: 0 }),
-        Err(LineEnd::BadPosition { at }) => {
-            Status::Request(RequestFault::BadPosition { index: 0, at })
-        }
-    }
+    let options = Options {
+        until_end: true,
+        capacity: 4,
+    };
+    connection(rt, alloc, options, input, output, tablets, clock)
 }

@@ -1,9 +1,10 @@
-ghost use Rattle.std.specs.Prelude.{◌≡◌, ◌≤◌, All, OnOk, Err};
+ghost use Rattle.std.specs.Prelude.{◌≡◌, ◌≤◌, ◌<◌, All, OnOk, Err, length};
 ghost use Rattle.vs_gtid.specs.Joins.{added};
+ghost use Rattle.vs_log.specs.Laws.{FitAlong};
 ghost use Rattle.vs_entries.specs.Rules.{IsBuilt};
 ghost use Rattle.vs_outside.specs.Counts.{Rose};
 ghost use Rattle.vs_outside.specs.Told.{Writes};
-ghost use Rattle.vs_command.specs.Sending.{AreSent, IsSent, lacking};
+ghost use Rattle.vs_command.specs.Sending.{AreSent, IsSent, IsTooLargeAlong, lacking};
 
 use crate::frame::entry_frame;
 use std::alloc::Global;
@@ -32,6 +33,8 @@ fn send_entry<O: Sink>(
     requires { IsBuilt entry.now.work }
     ensures wrote { Writes (O.sent output.old) (O.sent output.new) (λ w. IsSent name.now position.old entry.now result w) }
     ensures position { OnOk result (position.new ≡ added position.old entry.now.gtid) }
+    ensures fits { OnOk result (length (added position.old entry.now.gtid) ≤ 1024) }
+    ensures large { result ≡ Err SendEnd.PositionTooLarge → 1024 < length (added position.old entry.now.gtid) }
     ensures later { O.faults output.old ≤ O.faults output.new }
     ensures failed { result ≡ Err SendEnd.LinkFault → Rose (O.faults output.old) (O.faults output.new) }
 {
@@ -62,6 +65,8 @@ pub fn send_entries<O: Sink>(
 ) -> Result<(), SendEnd>
     requires { All (λ e. IsBuilt e.work) entries.now }
     ensures wrote { Writes (O.sent output.old) (O.sent output.new) (λ w. AreSent name.now start.now (lacking start.now entries.now) result w) }
+    ensures fits { OnOk result (FitAlong start.now (lacking start.now entries.now)) }
+    ensures large { result ≡ Err SendEnd.PositionTooLarge → IsTooLargeAlong start.now (lacking start.now entries.now) }
     ensures later { O.faults output.old ≤ O.faults output.new }
     ensures failed { result ≡ Err SendEnd.LinkFault → Rose (O.faults output.old) (O.faults output.new) }
 {

@@ -3,6 +3,7 @@ ghost use Rattle.vs_gtid.specs.Joins.{added};
 ghost use Rattle.vs_gtid.specs.Text.{set_text};
 ghost use Rattle.vs_command.specs.StatusTexts.{
   fault_text,
+  frame_why_text,
   name_text,
   status_line,
   status_number,
@@ -11,15 +12,34 @@ ghost use Rattle.vs_command.specs.StatusTexts.{
 
 use std::alloc::{AllocError, Global};
 use vs_base::{Gtid, OutOfMemory, ShardName, Text, Why};
+use vs_frame::FrameWhy;
 use vs_gtid::GtidSet;
+use vs_proto::ProtoRefusal;
 
-/// What is wrong with a request.
+/// What is wrong with a request. An `index` counts its entries from 0.
 #[derive(Debug, Drop)]
 pub enum RequestFault {
-    /// This release does not read such a request; the index is that of its entry.
-    NotBuilt { index: usize },
+    /// The input ends before a frame is whole; so many bytes were there.
+    Cut { held: usize },
+    /// The length of the frame is over 16,777,216.
+    TooLong { length: u32 },
+    /// The bytes are no message.
+    Message(ProtoRefusal),
+    NoShards,
+    TooManyShards { n: usize },
+    /// A keyspace or a shard that can't be a name.
+    BadName { index: usize },
     /// The position of an entry is no set of GTIDs, from this byte of its text on.
     BadPosition { index: usize, at: usize },
+    /// A set of GTIDs beside an empty shard.
+    NeedsShard { index: usize },
+    /// Two last keys, or one without a set of GTIDs.
+    TooManyKeys { index: usize },
+    /// A last key over its limits.
+    LongKey { index: usize },
+    TooManyRules { n: usize },
+    /// This release does not do what is asked for.
+    NotBuilt { index: usize },
 }
 
 /// How a session ended.
@@ -62,6 +82,11 @@ pub enum Status {
     PositionTooLarge {
         name: ShardName,
     },
+    /// The frame of a recording with this number, from 1 on, is the first that is none.
+    BadFrame {
+        number: u64,
+        why: FrameWhy,
+    },
 }
 
 impl Status {
@@ -83,6 +108,7 @@ impl Status {
             Status::InputFault => 11,
             Status::OpenFault { .. } => 12,
             Status::PositionTooLarge { .. } => 14,
+            Status::BadFrame { .. } => 17,
         }
     }
 
@@ -116,6 +142,7 @@ fn put_line(alloc: Global, status: &Status, out: &mut Vec<u8>) -> Result<(), Out
         Status::InputFault => put_words(b"input fault", out),
         Status::OpenFault { name } => put_named(b"open fault ", name, out),
         Status::PositionTooLarge { name } => put_named(b"position too large ", name, out),
+        Status::BadFrame { number, why } => put_bad_frame(alloc, *number, *why, out),
     }
 }
 
@@ -130,10 +157,28 @@ fn put_fault(alloc: Global, fault: &RequestFault, out: &mut Vec<u8>) -> Result<(
     ensures { OnOk result (out.new.items ≡ out.old.items ++ fault_text fault.now) }
 {
     match fault {
-        RequestFault::NotBuilt { index } => put_counted(alloc, b"NotBuilt ", *index as u64, out),
+        RequestFault::Cut { held } => put_counted(alloc, b"Cut ", *held as u64, out),
+        RequestFault::TooLong { length } => {
+            put_counted(alloc, b"TooLong ", u64::from(*length), out)
+        }
+        RequestFault::Message(_) => put_words(b"Message", out),
+        RequestFault::NoShards => put_words(b"NoShards", out),
+        RequestFault::TooManyShards { n } => {
+            put_counted(alloc, b"TooManyShards ", *n as u64, out)
+        }
+        RequestFault::BadName { index } => put_counted(alloc, b"BadName ", *index as u64, out),
         RequestFault::BadPosition { index, at } => {
             put_two_counted(alloc, b"BadPosition ", *index as u64, *at as u64, out)
         }
+        RequestFault::NeedsShard { index } => {
+            put_counted(alloc, b"NeedsShard ", *index as u64, out)
+        }
+        RequestFault::TooManyKeys { index } => {
+            put_counted(alloc, b"TooManyKeys ", *index as u64, out)
+        }
+        RequestFault::LongKey { index } => put_counted(alloc, b"LongKey ", *index as u64, out),
+        RequestFault::TooManyRules { n } => { put_counted(alloc, b"TooManyRules ", *n as u64, out) }
+        RequestFault::NotBuilt { index } => put_counted(alloc, b"NotBuilt ", *index as u64, out),
     }
 }
 
@@ -148,6 +193,23 @@ fn put_two_counted(
 {
     put_counted(alloc, words, first, out)?;
     put_counted(alloc, b" ", second, out)
+}
+
+fn put_bad_frame(
+    alloc: Global,
+    number: u64,
+    why: FrameWhy,
+    out: &mut Vec<u8>,
+) -> Result<(), OutOfMemory>
+    ensures { OnOk result (out.new.items ≡ out.old.items ++ (codes "bad frame " ++ (decimal number ++ frame_why_text why))) }
+{
+    put_counted(alloc, b"bad frame ", number, out)?;
+    let words: &[u8] = match why {
+        FrameWhy::Cut => b": cut",
+        FrameWhy::TooLong => b": too long",
+        FrameWhy::Message => b": message",
+    };
+    put_words(words, out)
 }
 
 fn put_purged(

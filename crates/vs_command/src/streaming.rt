@@ -1,8 +1,10 @@
-ghost use Rattle.std.specs.Prelude.{◌≡◌, ◌≤◌, IfOk, None, take};
+ghost use Rattle.std.specs.Prelude.{◌≡◌, ◌≤◌, ◌⊎◌, IfOk, None, take};
 ghost use Rattle.vs_outside.specs.Counts.{Rose};
 ghost use Rattle.vs_outside.specs.Told.{Writes};
+ghost use Rattle.vs_log.specs.Laws.{FitAlong, HasNewGtids};
 ghost use Rattle.vs_entries.specs.Reading.{read_as};
-ghost use Rattle.vs_command.specs.Sending.{position_after};
+ghost use Rattle.vs_command.specs.Causes.{IsOutside, LogAsksFor};
+ghost use Rattle.vs_command.specs.Sending.{lacking, position_after};
 ghost use Rattle.vs_command.specs.Streaming.{IsOfLog, IsStart, IsStreamedFrom, shard_log};
 
 use crate::fetch::Fetched;
@@ -13,6 +15,7 @@ use std::alloc::{AllocError, Global};
 use vs_base::{OutOfMemory, ShardName};
 use vs_entries::{LogRead, law_built, read_log};
 use vs_gtid::{Entry, GtidSet};
+use vs_log::law_distinct;
 use vs_outside::Sink;
 
 /// The position behind a base and these entries.
@@ -56,7 +59,9 @@ fn position_of(
     fetched: &Fetched,
     keyspace: &[u8],
 ) -> Result<GtidSet, OutOfMemory>
-    ensures { IfOk result (λ p. IsStart (read_as read.now) start (fetched.now.mark ≡ None) p) }
+    requires { HasNewGtids (read_as read.now) }
+    ensures start { IfOk result (λ p. IsStart (read_as read.now) start (fetched.now.mark ≡ None) p) }
+    ensures fits { start ≡ Start.Current → IfOk result (λ p. FitAlong p (lacking p read.now.entries)) }
 {
     match start {
         Start::At(set) => Ok(set),
@@ -77,11 +82,13 @@ pub fn stream_log<O: Sink>(
     fetched: &Fetched,
 ) -> Status
     ensures wrote { Writes (O.sent output.old) (O.sent output.new) (λ w. IsStreamedFrom name (shard_log name fetched.now.log.items) start (fetched.now.mark ≡ None) result w) }
+    ensures due { IsOutside result ⊎ LogAsksFor name (shard_log name fetched.now.log.items) start result }
     ensures kind { IsOfLog result }
     ensures later { O.faults output.old ≤ O.faults output.new }
     ensures link { result ≡ Status.LinkFault → Rose (O.faults output.old) (O.faults output.new) }
 {
     law_built();
+    law_distinct();
     let keyspace = name.keyspace.as_bytes();
     let Ok(read) = read_log(alloc, &fetched.log, keyspace) else {
         return Status::Memory;

@@ -1,14 +1,18 @@
-use crate::line::law_line;
+use crate::plain::run_plain;
 use crate::run::run;
 use std::alloc::{AllocError, Global};
+use std::process::Abort;
 use std::sync::Wait;
 use vs_base::{Column, ColumnKind, Gtid, List, ShardName, Text};
+use vs_frame::{law_front, put_frame};
 use vs_gtid::{
     Entry, GtidSet, JournalValue, Successor, Work, law_added, law_equal_sets, law_united,
 };
 use vs_outside::{
     FeedAnswer, MemClock, MemSink, MemSource, MemTablets, SinkAnswer, names_keyspace, names_shard,
 };
+use vs_proto::{Filter, Flags, Rule, ShardGtid, VGtid, VStreamRequest, write_request};
+use vs_request::law_requests;
 
 /// A format description, an empty base, and the statements `drop table t` (time 100) and
 /// `drop table s` (time 101) in `vt_c`, of the GTIDs 1 and 2.
@@ -43,41 +47,69 @@ const FRAMES: [u8; 210] =
     \x01\x30\x0a\x1a\x08\x05\x10\x65\x22\x0c\x64\x72\x6f\x70\x20\x74\x61\x62\x6c\x65\
     \x20\x73\xb2\x01\x01\x63\xba\x01\x01\x30";
 
+/// A request for c/0 behind no transaction.
+const REQUEST: [u8; 24] =
+    *b"\x00\x00\x00\x14\x0a\x12\x0a\x10\x0a\x01\x63\x12\x01\x30\x1a\x08MySQL56/";
+
+/// The frame of the first statement where the position also has the numbers 1 to 3 and 5 of another
+/// server, as far as its closing event.
+const BESIDE_OTHERS: [u8; 119] =
+    *b"\x00\x00\x00\x8f\x0a\x71\x08\x0f\x10\x64\x3a\x63\x0a\x61\x0a\x01\x63\x12\x01\x30\
+    \x1a\x59MySQL56/00000000-0000-0000-0000-000000000001:1,\
+    00000000-0000-0000-0000-00000000000a:1-3:5\xb2\x01\x01\x63\xba\x01\x01\x30";
+
 /// How many bytes of the log stand before its first entry, and before its second.
 const FRONT: usize = 112;
 
 const FIRST: usize = 205;
 
-/// What happens to a stream over memory.
+/// A transaction that changes no row: a GTID event, BEGIN and XID, of the time 100.
+const TRANSACTION: [u8; 113] =
+    *b"\x64\x00\x00\x00\x21\x01\x00\x00\x00\x2c\x00\x00\x00\x00\x00\x00\x00\x00\x00\x00\
+    \x00\x00\x00\x00\x00\x00\x00\x00\x00\x00\x00\x00\x00\x00\x00\x01\x01\x00\x00\x00\
+    \x00\x00\x00\x00\x64\x00\x00\x00\x02\x01\x00\x00\x00\x2a\x00\x00\x00\x00\x00\x00\
+    \x00\x00\x00\x00\x00\x00\x00\x00\x00\x00\x00\x04\x00\x00\x00\x00\x76\x74\x5f\x63\
+    \x00BEGIN\x64\x00\x00\x00\x10\x01\x00\x00\x00\x1b\x00\x00\x00\x00\x00\x00\x00\
+    \x00\x00\x00\x00\x00\x00\x00\x00\x00\x00";
+
+/// Its first event and its last, around the one with the vector.
+const BEGIN: [u8; 14] = *b"\x0a\x0c\x08\x02\x10\x64\xb2\x01\x01\x63\xba\x01\x01\x30";
+
+const COMMIT: [u8; 14] = *b"\x0a\x0c\x08\x03\x10\x64\xb2\x01\x01\x63\xba\x01\x01\x30";
+
+/// A PREVIOUS_GTIDS event of the numbers 1 to 5.
+const PREVIOUS: [u8; 67] =
+    *b"\x00\x00\x00\x00\x23\x01\x00\x00\x00\x43\x00\x00\x00\x00\x00\x00\x00\x80\x00\
+    \x01\x00\x00\x00\x00\x00\x00\x00\x00\x00\x00\x00\x00\x00\x00\x00\x00\x00\x00\x00\
+    \x00\x00\x00\x01\x01\x00\x00\x00\x00\x00\x00\x00\x01\x00\x00\x00\x00\x00\x00\x00\
+    \x06\x00\x00\x00\x00\x00\x00\x00";
+
+/// What happens to a stream over memory, and what comes of it.
 #[derive(Clone, Copy)]
 struct Case<'a> {
-    line: &'a [u8],
+    input: &'a [u8],
     log: &'a [u8],
     input_fails: bool,
     fetch_fails: bool,
     feed: &'a [FeedAnswer],
     sink: &'a [SinkAnswer],
-}
-
-/// Nothing fails, and the log of c/0 is asked for.
-fn plain(log: &[u8]) -> Case<'_> {
-    Case {
-        line: b"c/0 MySQL56/\n",
-        log,
-        input_fails: false,
-        fetch_fails: false,
-        feed: &[],
-        sink: &[],
-    }
-}
-
-/// The number of the status, its line, and what was written.
-#[derive(Drop)]
-struct Outcome {
     number: u8,
-    line: Text,
-    written: Text,
+    line: &'a str,
+    written: &'a [u8],
 }
+
+/// Nothing fails, the statements are asked for, and nothing more is written.
+const CASE: Case<'static> = Case {
+    input: &REQUEST,
+    log: &LOG,
+    input_fails: false,
+    fetch_fails: false,
+    feed: &[],
+    sink: &[],
+    number: 0,
+    line: "",
+    written: &[],
+};
 
 /// Tablets with the one shard c/0.
 fn tablets_of(alloc: Global, case: &Case<'_>) -> Result<MemTablets, AllocError> {
@@ -94,30 +126,36 @@ fn tablets_of(alloc: Global, case: &Case<'_>) -> Result<MemTablets, AllocError> 
     Ok(tablets)
 }
 
-fn outcome_of<R: Wait>(
+/// Runs each case, and compares its status, its line and what was written.
+fn compare<R: Wait + Abort>(
     rt: &R,
     alloc: Global,
     words: &[String],
-    case: &Case<'_>,
-) -> Result<Outcome, AllocError> {
-    let mut tablets = tablets_of(alloc, case)?;
-    let mut input = MemSource::new(alloc, case.line, &[case.input_fails])?;
-    let mut output = MemSink::new(alloc, case.sink)?;
-    let mut clock = MemClock::new(alloc, &[])?;
-    let status = run(
-        rt,
-        alloc,
-        words,
-        &mut input,
-        &mut output,
-        &mut tablets,
-        &mut clock,
-    );
-    Ok(Outcome {
-        number: status.number(),
-        line: status.line(alloc)?,
-        written: Text::from_bytes(alloc, output.sent())?,
-    })
+    cases: &[Case<'_>],
+) -> Result<(), AllocError> {
+    for (i, case) in cases.iter().enumerate() {
+        let mut tablets = tablets_of(alloc, case)?;
+        let mut input = MemSource::new(alloc, case.input, &[case.input_fails])?;
+        let mut output = MemSink::new(alloc, case.sink)?;
+        let mut clock = MemClock::new(alloc, &[])?;
+        let status = run(
+            rt,
+            alloc,
+            words,
+            &mut input,
+            &mut output,
+            &mut tablets,
+            &mut clock,
+        );
+        assert_eq!(rt; status.number(), case.number, "case {i}");
+        assert_eq!(rt;
+            status.line(alloc)?.as_bytes(),
+            case.line.as_bytes(),
+            "case {i}"
+        );
+        assert_eq!(rt; output.sent(), case.written, "case {i}");
+    }
+    Ok(())
 }
 
 fn stream_words(alloc: Global) -> Result<Vec<String>, AllocError> {
@@ -127,199 +165,392 @@ fn stream_words(alloc: Global) -> Result<Vec<String>, AllocError> {
     Ok(words)
 }
 
-/// The log of two statements is asked for by this line.
-fn asking(line: &[u8]) -> Case<'_> {
-    Case {
-        line,
-        ..plain(&LOG)
+/// An entry of a request.
+fn entry(
+    alloc: Global,
+    keyspace: &str,
+    shard: &str,
+    position: &str,
+) -> Result<ShardGtid, AllocError> {
+    Ok(ShardGtid {
+        keyspace: Text::from_bytes(alloc, keyspace.as_bytes())?,
+        shard: Text::from_bytes(alloc, shard.as_bytes())?,
+        gtid: Text::from_bytes(alloc, position.as_bytes())?,
+        table_p_ks: List::new(alloc),
+    })
+}
+
+/// The frame of a request.
+fn framed(alloc: Global, request: &VStreamRequest) -> Result<Vec<u8>, AllocError> {
+    let mut message = Vec::new(alloc);
+    write_request(alloc, &mut message, request)?;
+    let mut frame = Vec::new(alloc);
+    if message.len() > 16_777_216 {
+        return Err(AllocError);
     }
+    put_frame(alloc, &mut frame, &message)?;
+    Ok(frame)
 }
 
-/// It is fed so.
-fn fed(feed: &[FeedAnswer]) -> Case<'_> {
-    Case {
-        feed,
-        ..plain(&LOG)
-    }
-}
-
-#[test]
-fn a_log_is_streamed_to_its_end(rt: HostRuntime) -> Result<(), AllocError> {
-    let alloc = rt.alloc();
-    let words = stream_words(alloc)?;
-    let current = asking(b"c/0 current\n");
-    let waiting = Case {
-        feed: &[FeedAnswer::Give(50), FeedAnswer::Wait],
-        ..current
-    };
-    let behind = Case {
-        feed: &[FeedAnswer::Give(205), FeedAnswer::Wait],
-        ..current
-    };
-    for (i, (case, written)) in [
-        (plain(&LOG), &FRAMES[..]),
-        (plain(&LOG[..FRONT]), &FRAMES[..0]),
-        (plain(&[]), &FRAMES[..0]),
-        (fed(&[FeedAnswer::Wait, FeedAnswer::Give(1)]), &FRAMES[..]),
-        (
-            asking(b"c/0 00000000-0000-0000-0000-000000000001:1"),
-            &FRAMES[104..],
-        ),
-        (
-            asking(b"c/0 MySQL56/00000000-0000-0000-0000-000000000001:1-10\n"),
-            &FRAMES[..0],
-        ),
-        (current, &FRAMES[..0]),
-        (waiting, &FRAMES[..0]),
-        (behind, &FRAMES[104..]),
-    ]
-    .into_iter()
-    .enumerate()
-    {
-        let outcome = outcome_of(&rt, alloc, &words, &case)?;
-        assert_eq!(rt; outcome.number, 0, "case {i}");
-        assert_eq!(rt; outcome.written.as_bytes(), written, "case {i}");
-    }
-    Ok(())
-}
-
-/// A transaction that changes no row: a GTID event, BEGIN and XID, of the time 100.
-const TRANSACTION: [u8; 113] =
-    *b"\x64\x00\x00\x00\x21\x01\x00\x00\x00\x2c\x00\x00\x00\x00\x00\x00\x00\x00\x00\x00\
-    \x00\x00\x00\x00\x00\x00\x00\x00\x00\x00\x00\x00\x00\x00\x00\x01\x01\x00\x00\x00\
-    \x00\x00\x00\x00\x64\x00\x00\x00\x02\x01\x00\x00\x00\x2a\x00\x00\x00\x00\x00\x00\
-    \x00\x00\x00\x00\x00\x00\x00\x00\x00\x00\x00\x04\x00\x00\x00\x00\x76\x74\x5f\x63\
-    \x00BEGIN\x64\x00\x00\x00\x10\x01\x00\x00\x00\x1b\x00\x00\x00\x00\x00\x00\x00\
-    \x00\x00\x00\x00\x00\x00\x00\x00\x00\x00";
-
-/// Its first event and its last, around the one with the vector.
-const BEGIN: [u8; 14] = *b"\x0a\x0c\x08\x02\x10\x64\xb2\x01\x01\x63\xba\x01\x01\x30";
-
-const COMMIT: [u8; 14] = *b"\x0a\x0c\x08\x03\x10\x64\xb2\x01\x01\x63\xba\x01\x01\x30";
-
-#[test]
-fn a_transaction_has_its_begin_and_commit(rt: HostRuntime) -> Result<(), AllocError> {
-    let alloc = rt.alloc();
-    let words = stream_words(alloc)?;
-    let mut log = Vec::from_slice(alloc, &LOG[..FRONT])?;
-    log.extend_from_slice(&TRANSACTION)?;
-    let outcome = outcome_of(&rt, alloc, &words, &plain(&log))?;
-    let mut frame = Vec::from_slice(alloc, &[0, 0, 0, 100])?;
-    frame.extend_from_slice(&BEGIN)?;
-    frame.extend_from_slice(&FRAMES[4..76])?;
-    frame.extend_from_slice(&COMMIT)?;
-    assert_eq!(rt; outcome.number, 0);
-    assert_eq!(rt; outcome.written.as_bytes(), frame.as_slice());
-    Ok(())
-}
-
-/// A PREVIOUS_GTIDS event of the numbers 1 to 5.
-const PREVIOUS: [u8; 67] =
-    *b"\x00\x00\x00\x00\x23\x01\x00\x00\x00\x43\x00\x00\x00\x00\x00\x00\x00\x80\x00\
-    \x01\x00\x00\x00\x00\x00\x00\x00\x00\x00\x00\x00\x00\x00\x00\x00\x00\x00\x00\x00\
-    \x00\x00\x00\x01\x01\x00\x00\x00\x00\x00\x00\x00\x01\x00\x00\x00\x00\x00\x00\x00\
-    \x06\x00\x00\x00\x00\x00\x00\x00";
-
-/// A line that asks from every second transaction of the first 2,047.
-fn scattered_line(alloc: Global) -> Result<Vec<u8>, AllocError> {
-    let mut line = Vec::from_slice(alloc, b"c/0 00000000-0000-0000-0000-000000000001")?;
-    for i in 0u64..1024 {
-        line.push(b':')?;
-        let number = (2 * i + 1).to_string(alloc)?;
-        line.extend_from_slice(number.as_bytes())?;
-    }
-    Ok(line)
-}
-
-#[test]
-fn a_position_is_refused_where_it_does_not_fit(rt: HostRuntime) -> Result<(), AllocError> {
-    let alloc = rt.alloc();
-    let words = stream_words(alloc)?;
-    let mut purged = Vec::from_slice(alloc, &LOG[..85])?;
-    purged.extend_from_slice(&PREVIOUS)?;
-    let mut far = Vec::from_slice(alloc, &LOG[..148])?;
-    far.extend_from_slice(&[0x88, 0x13])?;
-    far.extend_from_slice(&LOG[150..FIRST])?;
-    let scattered = scattered_line(alloc)?;
-    for (log, asked, number, line) in [
-        (
-            &purged,
-            b"c/0 00000000-0000-0000-0000-000000000001:1-4".as_slice(),
-            5u8,
-            "purged c/0 00000000-0000-0000-0000-000000000001:5",
-        ),
-        (&far, scattered.as_slice(), 14, "position too large c/0"),
-        (
-            &far,
-            b"c/0 00000000-0000-0000-0000-000000000001:0",
-            3,
-            "request: BadPosition 0 37",
-        ),
-        (&far, b"c/0 MySQL57/", 3, "request: BadPosition 0 6"),
-        (&far, b"c/0 ", 3, "request: NotBuilt 0"),
-        (&far, b"c/ current", 3, "request: NotBuilt 0"),
-    ] {
-        let case = Case {
-            line: asked,
-            ..plain(log)
-        };
-        let outcome = outcome_of(&rt, alloc, &words, &case)?;
-        assert_eq!(rt; outcome.number, number);
-        assert_eq!(rt; outcome.line.as_bytes(), line.as_bytes());
-        assert_eq!(rt; outcome.written.as_bytes().len(), 0);
-    }
-    Ok(())
-}
-
-#[test]
-fn a_fault_comes_after_the_frames_before_it(rt: HostRuntime) -> Result<(), AllocError> {
-    let alloc = rt.alloc();
-    let words = stream_words(alloc)?;
-    let mut log = Vec::from_slice(alloc, &LOG[..FIRST])?;
-    log.extend_from_slice(&[0, 0, 0, 0, 2, 1, 0, 0, 0, 18, 0, 0, 0, 0, 0, 0, 0, 0, 0])?;
-    let bad = outcome_of(&rt, alloc, &words, &plain(&log))?;
-    assert_eq!(rt; bad.number, 6);
-    assert_eq!(rt;
-        bad.line.as_bytes(),
-        b"bad log c/0 at 205: bad length 18".as_slice()
-    );
-    assert_eq!(rt; bad.written.as_bytes(), &FRAMES[..104]);
-    let cut = outcome_of(
-        &rt,
+/// The frame of a request of these entries.
+fn of_entries(alloc: Global, entries: Vec<ShardGtid>) -> Result<Vec<u8>, AllocError> {
+    let vgtid = Some(VGtid {
+        shard_gtids: List::from_vec(entries),
+    });
+    framed(
         alloc,
-        &words,
-        &Case {
-            sink: &[SinkAnswer::Take(5), SinkAnswer::Fail],
-            ..plain(&LOG)
+        &VStreamRequest {
+            vgtid,
+            filter: None,
+            flags: None,
         },
-    )?;
-    assert_eq!(rt; cut.number, 10);
-    assert_eq!(rt; cut.written.as_bytes(), b"\x00\x00\x00\x64\x0a".as_slice());
-    Ok(())
+    )
+}
+
+/// The frame of a request of one entry.
+fn asking(
+    alloc: Global,
+    keyspace: &str,
+    shard: &str,
+    position: &str,
+) -> Result<Vec<u8>, AllocError> {
+    let mut entries = Vec::new(alloc);
+    entries.push(entry(alloc, keyspace, shard, position)?)?;
+    of_entries(alloc, entries)
+}
+
+/// The frame of a request of as many shards of c.
+fn asking_for(alloc: Global, count: u64) -> Result<Vec<u8>, AllocError> {
+    let mut entries = Vec::new(alloc);
+    for i in 0..count {
+        let shard = i.to_string(alloc)?;
+        entries.push(entry(alloc, "c", shard.as_str(), "MySQL56/")?)?;
+    }
+    of_entries(alloc, entries)
+}
+
+/// The position of every second transaction of the first 2,047.
+fn scattered(alloc: Global) -> Result<String, AllocError> {
+    let mut text = String::from_str(alloc, "00000000-0000-0000-0000-000000000001")?;
+    for i in 0u64..1024 {
+        text.push_str(":")?;
+        let number = (2 * i + 1).to_string(alloc)?;
+        text.push_str(number.as_str())?;
+    }
+    Ok(text)
+}
+
+/// Some bytes and more of them.
+fn joined(alloc: Global, parts: &[&[u8]]) -> Result<Vec<u8>, AllocError> {
+    let mut all = Vec::new(alloc);
+    for part in parts {
+        all.extend_from_slice(part)?;
+    }
+    Ok(all)
+}
+
+/// Requests, as frames.
+#[derive(Drop)]
+struct Requests {
+    first: Vec<u8>,
+    ten: Vec<u8>,
+    four: Vec<u8>,
+    others: Vec<u8>,
+    wide: Vec<u8>,
+    current: Vec<u8>,
+    unknown: Vec<u8>,
+    behind: Vec<u8>,
+}
+
+fn make_requests(alloc: Global) -> Result<Requests, AllocError> {
+    let others = "00000000-0000-0000-0000-00000000000A:3, \
+        00000000-0000-0000-0000-00000000000a:1-2:5:2";
+    let ten = "MySQL56/00000000-0000-0000-0000-000000000001:1-10";
+    let four = "MySQL56/00000000-0000-0000-0000-000000000001:1-4";
+    Ok(Requests {
+        first: asking(alloc, "c", "0", "00000000-0000-0000-0000-000000000001:1")?,
+        ten: asking(alloc, "c", "0", ten)?,
+        four: asking(alloc, "c", "0", four)?,
+        others: asking(alloc, "c", "0", others)?,
+        wide: asking(alloc, "c", "0", scattered(alloc)?.as_str())?,
+        current: asking(alloc, "c", "0", "current")?,
+        unknown: asking(alloc, "z", "0", "MySQL56/")?,
+        behind: joined(alloc, &[&REQUEST, b"and more"])?,
+    })
+}
+
+/// Logs, and frames that two of them give.
+#[derive(Drop)]
+struct Logs {
+    purged: Vec<u8>,
+    unflagged: Vec<u8>,
+    far: Vec<u8>,
+    bad: Vec<u8>,
+    plain: Vec<u8>,
+    beside: Vec<u8>,
+    transaction: Vec<u8>,
+}
+
+fn make_logs(alloc: Global) -> Result<Logs, AllocError> {
+    let head = [0, 0, 0, 0, 2, 1, 0, 0, 0, 18, 0, 0, 0, 0, 0, 0, 0, 0, 0];
+    let unflagged: [&[u8]; 4] = [&LOG[..85], &PREVIOUS[..17], &[0], &PREVIOUS[18..]];
+    Ok(Logs {
+        purged: joined(alloc, &[&LOG[..85], &PREVIOUS])?,
+        unflagged: joined(alloc, &unflagged)?,
+        far: joined(alloc, &[&LOG[..148], &[0x88, 0x13], &LOG[150..FIRST]])?,
+        bad: joined(alloc, &[&LOG[..FIRST], &head])?,
+        plain: joined(alloc, &[&LOG[..FRONT], &TRANSACTION])?,
+        beside: joined(alloc, &[&BESIDE_OTHERS, &FRAMES[76..104]])?,
+        transaction: joined(alloc, &[&[0, 0, 0, 100], &BEGIN, &FRAMES[4..76], &COMMIT])?,
+    })
+}
+
+/// How a shard is streamed, or why it isn't.
+fn streams<'a>(requests: &'a Requests, logs: &'a Logs) -> [Case<'a>; 21] {
+    [
+        // a log without an entry, and one without a byte
+        Case {
+            log: &LOG[..FRONT],
+            ..CASE
+        },
+        Case { log: &[], ..CASE },
+        // all of a log, at once or in pieces, whatever stands behind the request
+        Case {
+            written: &FRAMES,
+            ..CASE
+        },
+        Case {
+            feed: &[FeedAnswer::Wait, FeedAnswer::Give(1)],
+            written: &FRAMES,
+            ..CASE
+        },
+        Case {
+            input: &requests.behind,
+            written: &FRAMES,
+            ..CASE
+        },
+        // what a position has isn't sent
+        Case {
+            input: &requests.first,
+            written: &FRAMES[104..],
+            ..CASE
+        },
+        Case {
+            input: &requests.ten,
+            ..CASE
+        },
+        Case {
+            input: &requests.four,
+            log: &logs.purged,
+            number: 5,
+            line: "purged c/0 00000000-0000-0000-0000-000000000001:5",
+            ..CASE
+        },
+        Case {
+            input: &requests.four,
+            log: &logs.unflagged,
+            number: 5,
+            line: "purged c/0 00000000-0000-0000-0000-000000000001:5",
+            ..CASE
+        },
+        Case {
+            input: &requests.others,
+            log: &LOG[..FIRST],
+            written: &logs.beside,
+            ..CASE
+        },
+        Case {
+            input: &requests.wide,
+            log: &logs.far,
+            number: 14,
+            line: "position too large c/0",
+            ..CASE
+        },
+        // from the log's end: as it is, or as it stood when the feed first waited
+        Case {
+            input: &requests.current,
+            ..CASE
+        },
+        Case {
+            input: &requests.current,
+            feed: &[FeedAnswer::Give(50), FeedAnswer::Wait],
+            ..CASE
+        },
+        Case {
+            input: &requests.current,
+            feed: &[FeedAnswer::Give(205), FeedAnswer::Wait],
+            written: &FRAMES[104..],
+            ..CASE
+        },
+        // a transaction that changes no row
+        Case {
+            log: &logs.plain,
+            written: &logs.transaction,
+            ..CASE
+        },
+        // a fault of the log comes after the frames before it
+        Case {
+            log: &logs.bad,
+            number: 6,
+            line: "bad log c/0 at 205: bad length 18",
+            written: &FRAMES[..104],
+            ..CASE
+        },
+        // what fails outside
+        Case {
+            sink: &[SinkAnswer::Take(5), SinkAnswer::Fail],
+            number: 10,
+            line: "link fault",
+            written: b"\x00\x00\x00\x64\x0a",
+            ..CASE
+        },
+        Case {
+            fetch_fails: true,
+            number: 12,
+            line: "open fault c/0",
+            ..CASE
+        },
+        Case {
+            input_fails: true,
+            number: 11,
+            line: "input fault",
+            ..CASE
+        },
+        Case {
+            feed: &[FeedAnswer::Give(9), FeedAnswer::Fail],
+            number: 9,
+            line: "feed fault c/0",
+            ..CASE
+        },
+        Case {
+            input: &requests.unknown,
+            number: 4,
+            line: "unknown shard z/0",
+            ..CASE
+        },
+    ]
 }
 
 #[test]
-fn each_answer_has_its_number(rt: HostRuntime) -> Result<(), AllocError> {
+fn a_shard_is_streamed_or_the_reason_is_told(rt: HostRuntime) -> Result<(), AllocError> {
     let alloc = rt.alloc();
     let words = stream_words(alloc)?;
+    let requests = make_requests(alloc)?;
+    let logs = make_logs(alloc)?;
+    compare(&rt, alloc, &words, &streams(&requests, &logs))
+}
+
+#[test]
+fn a_request_is_refused_by_name(rt: HostRuntime) -> Result<(), AllocError> {
+    let alloc = rt.alloc();
+    let words = stream_words(alloc)?;
+    let many = asking_for(alloc, 65)?;
+    let most = asking_for(alloc, 64)?;
+    let no_shard = asking(alloc, "c", "", "00000000-0000-0000-0000-000000000001:1")?;
+    let all_shards = asking(alloc, "c", "", "current")?;
+    let copy = asking(alloc, "c", "0", "")?;
+    let zero = asking(alloc, "c", "0", "00000000-0000-0000-0000-000000000001:0")?;
+    let dots = asking(alloc, "c", "..", "MySQL56/")?;
+    let filtered = with_rule(alloc)?;
+    let beating = with_flag(alloc)?;
+    let cases = [
+        (b"\x00\x00\x00\x02\x0a\x00".as_slice(), "request: NoShards"),
+        (b"\x00\x00\x00\x02\x0a\x7f", "request: Message"),
+        (b"\x00\x00\x00\x05\x0a\x7f\x01", "request: Cut 7"),
+        (b"", "request: Cut 0"),
+        (b"\x01\x00\x00\x01\x0a", "request: TooLong 16777217"),
+        (&many, "request: TooManyShards 65"),
+        (&most, "request: NotBuilt 1"),
+        (&no_shard, "request: NeedsShard 0"),
+        (&dots, "request: BadName 0"),
+        (&zero, "request: BadPosition 0 37"),
+        (&all_shards, "request: NotBuilt 0"),
+        (&copy, "request: NotBuilt 0"),
+        (&filtered, "request: NotBuilt 0"),
+        (&beating, "request: NotBuilt 0"),
+    ];
+    for (input, line) in cases {
+        let case = Case {
+            input,
+            number: 3,
+            line,
+            ..CASE
+        };
+        compare(&rt, alloc, &words, &[case])?;
+    }
     let none = Vec::new(alloc);
-    let usage = outcome_of(&rt, alloc, &none, &plain(&LOG))?;
-    assert_eq!(rt; usage.number, 2);
-    let input_fails = Case {
-        input_fails: true,
-        ..plain(&LOG)
+    let usage = Case {
+        number: 2,
+        line: "usage: vstreamd stream DIR [--until-end] [--capacity N]",
+        ..CASE
     };
-    let fetch_fails = Case {
-        fetch_fails: true,
-        ..plain(&LOG)
-    };
-    for (case, number) in [
-        (asking(b"z/0 MySQL56/"), 4),
-        (fed(&[FeedAnswer::Give(9), FeedAnswer::Fail]), 9),
-        (input_fails, 11),
-        (fetch_fails, 12),
+    compare(&rt, alloc, &none, &[usage])
+}
+
+/// A request with a rule.
+fn with_rule(alloc: Global) -> Result<Vec<u8>, AllocError> {
+    let mut rules = Vec::new(alloc);
+    rules.push(Rule {
+        pattern: Text::from_bytes(alloc, b"t")?,
+        filter: Text::new(alloc),
+    })?;
+    let mut entries = Vec::new(alloc);
+    entries.push(entry(alloc, "c", "0", "MySQL56/")?)?;
+    framed(
+        alloc,
+        &VStreamRequest {
+            vgtid: Some(VGtid {
+                shard_gtids: List::from_vec(entries),
+            }),
+            filter: Some(Filter {
+                rules: List::from_vec(rules),
+            }),
+            flags: None,
+        },
+    )
+}
+
+/// A request with a heartbeat.
+fn with_flag(alloc: Global) -> Result<Vec<u8>, AllocError> {
+    let mut entries = Vec::new(alloc);
+    entries.push(entry(alloc, "c", "0", "MySQL56/")?)?;
+    framed(
+        alloc,
+        &VStreamRequest {
+            vgtid: Some(VGtid {
+                shard_gtids: List::from_vec(entries),
+            }),
+            filter: None,
+            flags: Some(Flags {
+                max_skew: 0,
+                heartbeat_interval: 5,
+                stop_on_reshard: false,
+                include_journals: false,
+            }),
+        },
+    )
+}
+
+#[test]
+fn a_recording_is_shown(rt: HostRuntime) -> Result<(), AllocError> {
+    let alloc = rt.alloc();
+    let mut words = Vec::new(alloc);
+    words.push(String::from_str(alloc, "show")?)?;
+    let lines = "#1\nVGTID c/0@MySQL56/00000000-0000-0000-0000-000000000001:1\n\
+        DDL c/0 'drop table t'\n\
+        #2\nVGTID c/0@MySQL56/00000000-0000-0000-0000-000000000001:1-2\n\
+        DDL c/0 'drop table s'\n";
+    for (recording, number, line, shown) in [
+        (&FRAMES[..], 0u8, "", lines),
+        (&FRAMES[..50], 17, "bad frame 1: cut", ""),
     ] {
-        assert_eq!(rt; outcome_of(&rt, alloc, &words, &case)?.number, number);
+        let mut input = MemSource::new(alloc, recording, &[])?;
+        let mut output = MemSink::new(alloc, &[])?;
+        let mut tablets = MemTablets::new(alloc)?;
+        let status = run_plain(alloc, &words, &mut input, &mut output, &mut tablets);
+        assert_eq!(rt; status.number(), number);
+        assert_eq!(rt; status.line(alloc)?.as_bytes(), line.as_bytes());
+        assert_eq!(rt; output.sent(), shown.as_bytes());
     }
     Ok(())
 }
@@ -348,7 +579,8 @@ fn journals_are_copied(rt: HostRuntime) -> Result<(), AllocError> {
     law_added();
     law_united();
     law_equal_sets();
-    law_line();
+    law_front();
+    law_requests();
     let journal = JournalValue {
         id: 7,
         shards: true,

@@ -1,18 +1,37 @@
-use Rattle.std.proofs.Common.{subst}
-use Rattle.vs_outside.specs.Counts.{Rose}
-use Rattle.vs_command.proofs.AnswerLemmas.{headline_asked}
+use Rattle.std.proofs.Common.{◌≡◌, subst}
+use Rattle.std.specs.Prelude.{◌⊎◌, IfSome}
+use Rattle.vs_command.specs.Causes.{IsDue, IsOutside}
+use Rattle.vs_command.specs.declared.status.Status.TheVariants.{Done, UnknownShard, Purged, BadLog, PositionTooLarge}
+use Rattle.vs_command.proofs.AnswerLemmas.{headline_told}
 use Rattle.vs_command.proofs.run.run.Goals as goal
 
-pub returns-in-Ok-clause-headline : goal.returns-in-Ok-clause-headline
-returns-in-Ok-clause-headline g c =
-    headline_asked (g.T.Tablets.cluster c.args.tablets.now) (g.T.Tablets.cluster c.point.new.self) (g.I.Source.left c.args.input.now) c.in-Ok.asked.name c.in-Ok.asked.start
-    (g.T.Tablets.waits c.args.tablets.now) (g.T.Tablets.waits c.point.new.self) (g.T.Tablets.waits c.stream_shard.new.tablets) _ _ _
-    c.point.ensures.cluster (c.point.ensures.waits c.in-Ok.asked.name) c.in-Ok.ensures.asks c.stream_shard.ensures.answers
+pub returns-clause-headline : goal.returns-clause-headline
+returns-clause-headline g c =
+    headline_told (g.T.Tablets.cluster c.args.tablets.now) (g.T.Tablets.cluster c.point.new.self) (g.I.Source.left c.args.input.now)
+    (g.T.Tablets.waits c.args.tablets.now) (g.T.Tablets.waits c.point.new.self) (g.T.Tablets.waits c.connection.new.tablets) _ _ _
+    c.point.ensures.cluster c.point.ensures.waits c.connection.ensures.headline
 
-pub returns-in-Ok-clause-feed : goal.returns-in-Ok-clause-feed
-returns-in-Ok-clause-feed g c name is =
-    subst (λ n. Rose n (g.T.Tablets.faults c.stream_shard.new.tablets name)) (c.point.ensures.faults name) (c.stream_shard.ensures.feed name is)
+pub returns-clause-unknown_when : goal.returns-clause-unknown_when
+returns-clause-unknown_when g c folder name words =
+    subst (λ t. IfSome t (λ k. IfSome (g.I.Source.left c.args.input.now) (λ input. IsDue k input (UnknownShard name) → IsOutside c.connection.result ⊎ (c.connection.result ≡ (UnknownShard name)))))
+    c.point.ensures.cluster (c.connection.ensures.only (UnknownShard name))
 
-pub returns-in-Ok-clause-opening : goal.returns-in-Ok-clause-opening
-returns-in-Ok-clause-opening g c name is =
-    subst (λ n. Rose n (g.T.Tablets.open_faults c.stream_shard.new.tablets name)) (c.point.ensures.open_faults name) (c.stream_shard.ensures.opening name is)
+pub returns-clause-purged_when : goal.returns-clause-purged_when
+returns-clause-purged_when g c folder name missing words =
+    subst (λ t. IfSome t (λ k. IfSome (g.I.Source.left c.args.input.now) (λ input. IsDue k input (Purged name missing) → IsOutside c.connection.result ⊎ (c.connection.result ≡ (Purged name missing)))))
+    c.point.ensures.cluster (c.connection.ensures.only (Purged name missing))
+
+pub returns-clause-bad_log_when : goal.returns-clause-bad_log_when
+returns-clause-bad_log_when g c folder name offset why words =
+    subst (λ t. IfSome t (λ k. IfSome (g.I.Source.left c.args.input.now) (λ input. IsDue k input (BadLog name offset why) → IsOutside c.connection.result ⊎ (c.connection.result ≡ (BadLog name offset why)))))
+    c.point.ensures.cluster (c.connection.ensures.only (BadLog name offset why))
+
+pub returns-clause-too_large_when : goal.returns-clause-too_large_when
+returns-clause-too_large_when g c folder name words =
+    subst (λ t. IfSome t (λ k. IfSome (g.I.Source.left c.args.input.now) (λ input. IsDue k input (PositionTooLarge name) → IsOutside c.connection.result ⊎ (c.connection.result ≡ (PositionTooLarge name)))))
+    c.point.ensures.cluster (c.connection.ensures.only (PositionTooLarge name))
+
+pub returns-clause-done_when : goal.returns-clause-done_when
+returns-clause-done_when g c folder words =
+    subst (λ t. IfSome t (λ k. IfSome (g.I.Source.left c.args.input.now) (λ input. IsDue k input Done → IsOutside c.connection.result ⊎ (c.connection.result ≡ Done))))
+    c.point.ensures.cluster (c.connection.ensures.only Done)

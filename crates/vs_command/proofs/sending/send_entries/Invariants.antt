@@ -1,5 +1,6 @@
 use Rattle.std.proofs.Common.{◌≡◌, ◌≤◌, take}
 use Rattle.vs_outside.specs.Told.{Writes}
+use Rattle.vs_log.specs.Laws.{FitAlong}
 use Rattle.vs_command.specs.Sending.{lacking, position_after}
 use Rattle.vs_command.proofs.SendLemmas.{WroteFirst}
 use Rattle.vs_command.proofs.sending.send_entries.Given as goal
@@ -8,6 +9,7 @@ use Rattle.vs_command.proofs.sending.send_entries.Given as goal
 abbrev pub invariant-loop-entry : goal.invariant-loop-entry
 invariant-loop-entry g l = record {
   wrote : Writes (g.O.Sink.sent l.fn.output) (g.O.Sink.sent l.output) (WroteFirst l.name l.start (lacking l.start (take l.entry-index l.entries)));
+  fits : FitAlong l.start (lacking l.start (take l.entry-index l.entries));
   position : l.position ≡ position_after l.start (lacking l.start (take l.entry-index l.entries));
   later : g.O.Sink.faults l.fn.output ≤ g.O.Sink.faults l.output;
 }

@@ -1,0 +1,273 @@
+-- An input and a cluster ask for one answer.
+use Rattle.std.proofs.Common.{◌≡◌, ◌&&◌, ℕ, true, false, nat_eq, List, Option, Some, None, refl, sym, ap, subst, ◌∙◌, arith}
+use Rattle.std.specs.Prelude.{◌⊎◌, IfSome}
+use Rattle.std.specs.Cmp.Lexicographic.{pointwise, slice_cmp}
+use Rattle.std.specs.Ordering.{nat_cmp, is_gt, ordering_then, ordering_reverse}
+use Rattle.std.specs.declared.cmp.Ordering.{Ordering}
+use Rattle.std.specs.declared.cmp.Ordering.TheVariants.{Less, Equal, Greater}
+use Rattle.std.proofs.lemmas.Slice.Eq.{bytes_eq-Decides}
+use Rattle.std.proofs.lemmas.Bool.{eq-eqb}
+use Rattle.std.proofs.lemmas.Bool.Decides.{nat_tests}
+use Rattle.std.proofs.lemmas.Cmp.{nat_list_cmp_total}
+use Rattle.std.proofs.lemmas.Map.Lookups.{exact_bytes}
+use Rattle.vs_base.specs.declared.Gtid.{Gtid}
+use Rattle.vs_base.specs.declared.ShardName.{ShardName}
+use Rattle.vs_base.specs.declared.Why.{Why}
+use Rattle.vs_base.specs.Names.{same_gtid}
+use Rattle.vs_base.proofs.NameLemmas.{same_gtid-is}
+use Rattle.vs_gtid.specs.Logs.{Log}
+use Rattle.vs_gtid.specs.Missing.{IsFirstMissing, comes_after}
+use Rattle.vs_gtid.specs.Positions.{Position, IsSubset}
+use Rattle.vs_gtid.proofs.MissingLemmas.{not_subset}
+use Rattle.vs_outside.specs.Clusters.{ClusterBytes, Shard, find_shard}
+use Rattle.vs_model.specs.Logs.{after}
+use Rattle.vs_command.specs.declared.start.Start.{Start}
+use Rattle.vs_command.specs.declared.start.Start.TheVariants.{At, Current}
+use Rattle.vs_command.specs.declared.status.RequestFault.{RequestFault}
+use Rattle.vs_command.specs.declared.status.Status.{Status}
+use Rattle.vs_command.specs.declared.status.Status.TheVariants.{Done, Memory, Usage, Request, UnknownShard, Purged, BadLog, FeedFault, LinkFault, InputFault, OpenFault, PositionTooLarge, BadFrame}
+use Rattle.vs_command.specs.Causes.{AnswersLog, CanBeSent, HasRead, IsDue, IsOutside, LogAsksFor, ShardAsksFor}
+use Rattle.vs_command.specs.Laws.{Laws}
+use Rattle.vs_command.specs.Requests.{Asks, IsFaultOf, IsFrame, TakesOf}
+use Rattle.vs_command.specs.Sending.{IsTooLargeAlong}
+use Rattle.vs_command.specs.Streaming.{IsOfStream, shard_log}
+use Rattle.vs_command.proofs.SaidLemmas.{asks_once, fault_once, not_asked}
+
+-- ---- the first GTID that is missing is one
+
+same_number : (a b : ℕ) → is_gt (nat_cmp a b) ≡ false → is_gt (nat_cmp b a) ≡ false → a ≡ b
+same_number a b h k = grind (arith, nat_tests)
+
+both_are : (u v : List ℕ) (a b : ℕ) → u ≡ v → a ≡ b → (pointwise nat_eq u v && nat_eq a b) ≡ true
+both_are u v a b p q = let x : pointwise nat_eq u v ≡ true = (bytes_eq-Decides u v).1 p in let y : nat_eq a b ≡ true = eq-eqb a b q in cc
+
+same_parts : (g h : Gtid) → g.uuid ≡ h.uuid → g.number ≡ h.number → g ≡ h
+unfolding same_gtid
+same_parts g h p q = same_gtid-is g h (both_are g.uuid h.uuid g.number h.number p q)
+
+neither_after : (g h : Gtid) → comes_after g h ≡ false → comes_after h g ≡ false → g ≡ h
+neither_after g h p q = go (slice_cmp nat_cmp g.uuid h.uuid) refl p (subst (λ o. is_gt (ordering_then o (nat_cmp h.number g.number)) ≡ false) (nat_list_cmp_total.antisymm h.uuid g.uuid) q)
+  where
+    go : (o : Ordering) → slice_cmp nat_cmp g.uuid h.uuid ≡ o → is_gt (ordering_then o (nat_cmp g.number h.number)) ≡ false →
+        is_gt (ordering_then (ordering_reverse (slice_cmp nat_cmp g.uuid h.uuid)) (nat_cmp h.number g.number)) ≡ false → g ≡ h
+    go Less e a b = let t = rw e at b in cc
+    go Greater e a b = cc
+    go Equal e a b = same_parts g h (exact_bytes g.uuid h.uuid e) (same_number g.number h.number a (rw e at b))
+
+one_missing : (p q : Position) (g h : Gtid) → IsFirstMissing p q g → IsFirstMissing p q h → g ≡ h
+one_missing p q g h a b = neither_after g h (a.least h b.is_in b.is_missing) (b.least g a.is_in a.is_missing)
+
+-- ---- a log asks for one answer
+
+-- the answer at the end of a log, where all was sent
+abbrev end_status : ShardName → Option (ℕ × Why) → Status
+end_status s None = Done
+end_status s (Some fault) = BadLog s fault.0 fault.1
+
+-- which of three it is
+data LogAnswer (s : ShardName) (log : Log) (start : Start) (status : Status) : Type 0 where
+  ends : CanBeSent log start → status ≡ end_status s log.fault → LogAnswer s log start status
+  purged : (p : Position) (missing : Gtid) → start ≡ At p → IsFirstMissing log.base p missing → status ≡ Purged s missing → LogAnswer s log start status
+  large : (p : Position) → start ≡ At p → IsSubset log.base p → IsTooLargeAlong p (after log p) → status ≡ PositionTooLarge s → LogAnswer s log start status
+
+log_answer : (s : ShardName) (log : Log) (start : Start) (status : Status) → LogAsksFor s log start status → LogAnswer s log start status
+log_answer s log start Done asks = ends asks.0 (sym (ap (λ f. end_status s f) asks.1))
+log_answer s log start (BadLog name offset why) asks = ends asks.1 (ap (λ n. BadLog n offset why) asks.0 ∙ sym (ap (λ f. end_status s f) asks.2))
+log_answer s log (At p) (Purged name missing) asks = purged p missing refl asks.1 (ap (λ n. Purged n missing) asks.0)
+log_answer s log Current (Purged name missing) asks = absurd asks
+log_answer s log (At p) (PositionTooLarge name) asks = large p refl asks.1 asks.2 (ap (λ n. PositionTooLarge n) asks.0)
+log_answer s log Current (PositionTooLarge name) asks = absurd asks
+log_answer s log start Memory asks = absurd asks
+log_answer s log start Usage asks = absurd asks
+log_answer s log start (BadFrame number frame_why) asks = absurd asks
+log_answer s log start (Request fault) asks = absurd asks
+log_answer s log start (UnknownShard name) asks = absurd asks
+log_answer s log start (FeedFault name) asks = absurd asks
+log_answer s log start LinkFault asks = absurd asks
+log_answer s log start InputFault asks = absurd asks
+log_answer s log start (OpenFault name) asks = absurd asks
+
+none_purged : (log : Log) (start : Start) (p : Position) (missing : Gtid) → CanBeSent log start → start ≡ At p → IsFirstMissing log.base p missing → ⊥
+none_purged log start p missing can at first = not_subset log.base p missing first (subst (λ s. CanBeSent log s) at can).base
+
+none_large : (log : Log) (start : Start) (p : Position) → CanBeSent log start → start ≡ At p → IsTooLargeAlong p (after log p) → ⊥
+none_large log start p can at over = (subst (λ s. CanBeSent log s) at can).room over
+
+same_at : (start : Start) (p q : Position) → start ≡ At p → start ≡ At q → p ≡ q
+same_at start p q a b = let same : ◌≡◌ {A = Start} (At p) (At q) = sym a ∙ b in cc
+
+one_answer : (s : ShardName) (log : Log) (start : Start) (a b : Status) → LogAnswer s log start a → LogAnswer s log start b → a ≡ b
+one_answer s log start a b (ends can is) (ends more too) = is ∙ sym too
+one_answer s log start a b (ends can is) (purged p missing at first too) = absurd (none_purged log start p missing can at first)
+one_answer s log start a b (ends can is) (large p at base over too) = absurd (none_large log start p can at over)
+one_answer s log start a b (purged p missing at first is) (ends can too) = absurd (none_purged log start p missing can at first)
+one_answer s log start a b (purged p missing at first is) (purged q lost here least too) =
+    is ∙ ap (λ g. Purged s g) (one_missing log.base q missing lost (subst (λ x. IsFirstMissing log.base x missing) (same_at start p q at here) first) least) ∙ sym too
+one_answer s log start a b (purged p missing at first is) (large q here base over too) = absurd (not_subset log.base p missing first (subst (λ x. IsSubset log.base x) (same_at start q p here at) base))
+one_answer s log start a b (large p at base over is) (ends can too) = absurd (none_large log start p can at over)
+one_answer s log start a b (large p at base over is) (purged q missing here first too) = absurd (not_subset log.base q missing first (subst (λ x. IsSubset log.base x) (same_at start p q at here) base))
+one_answer s log start a b (large p at base over is) (large q here more far too) = is ∙ sym too
+
+one_of_shard : (shard : Option Shard) (s : ShardName) (start : Start) (a b : Status) → ShardAsksFor shard s start a → ShardAsksFor shard s start b → a ≡ b
+one_of_shard None s start a b p q = p ∙ sym q
+one_of_shard (Some shard) s start a b p q = one_answer s (shard_log s shard.log) start a b (log_answer s (shard_log s shard.log) start a p) (log_answer s (shard_log s shard.log) start b q)
+
+-- ---- an input asks for one answer
+
+-- the input is refused, or asks for a shard, which asks for the answer
+data DueAnswer (cluster : ClusterBytes) (input : List ℕ) (status : Status) : Type 0 where
+  refused : (fault : RequestFault) → IsFaultOf input fault → status ≡ Request fault → DueAnswer cluster input status
+  asked : (name : ShardName) (start : Start) → Asks input name start → ShardAsksFor (find_shard cluster name) name start status → DueAnswer cluster input status
+
+of_log : (cluster : ClusterBytes) (input : List ℕ) (status : Status) → AnswersLog cluster input status → DueAnswer cluster input status
+of_log cluster input status answers = asked answers.0 answers.1 answers.3 (subst (λ o. ShardAsksFor o answers.0 answers.1 status) (sym answers.4) answers.5)
+
+due_answer : (cluster : ClusterBytes) (input : List ℕ) (status : Status) → IsDue cluster input status → DueAnswer cluster input status
+due_answer cluster input (Request fault) due = refused fault due refl
+due_answer cluster input (UnknownShard name) due = asked name due.0 due.1 (subst (λ o. ShardAsksFor o name due.0 (UnknownShard name)) (sym due.2) refl)
+due_answer cluster input Done due = of_log cluster input Done due
+due_answer cluster input Memory due = of_log cluster input Memory due
+due_answer cluster input Usage due = of_log cluster input Usage due
+due_answer cluster input (BadFrame number frame_why) due = of_log cluster input (BadFrame number frame_why) due
+due_answer cluster input (Purged name missing) due = of_log cluster input (Purged name missing) due
+due_answer cluster input (BadLog name offset why) due = of_log cluster input (BadLog name offset why) due
+due_answer cluster input (FeedFault name) due = of_log cluster input (FeedFault name) due
+due_answer cluster input LinkFault due = of_log cluster input LinkFault due
+due_answer cluster input InputFault due = of_log cluster input InputFault due
+due_answer cluster input (OpenFault name) due = of_log cluster input (OpenFault name) due
+due_answer cluster input (PositionTooLarge name) due = of_log cluster input (PositionTooLarge name) due
+
+one_due : Laws → (cluster : ClusterBytes) (input : List ℕ) (a b : Status) → DueAnswer cluster input a → DueAnswer cluster input b → a ≡ b
+one_due laws cluster input a b (refused f p is) (refused g q too) = is ∙ ap (λ x. Request x) (fault_once laws input f g p q) ∙ sym too
+one_due laws cluster input a b (refused f p is) (asked n s asks for) = absurd (not_asked laws input n s f asks p)
+one_due laws cluster input a b (asked n s asks for) (refused f p is) = absurd (not_asked laws input n s f asks p)
+one_due laws cluster input a b (asked n s asks for) (asked m t too more) =
+    let same = asks_once laws input n m s t asks too in
+    one_of_shard (find_shard cluster m) m t a b (subst (λ x. ShardAsksFor (find_shard cluster m) m x a) same.1 (subst (λ x. ShardAsksFor (find_shard cluster x) x s a) same.0 for)) more
+
+due_once : Laws → (cluster : ClusterBytes) (input : List ℕ) (a b : Status) → IsDue cluster input a → IsDue cluster input b → a ≡ b
+due_once laws cluster input a b p q = one_due laws cluster input a b (due_answer cluster input a p) (due_answer cluster input b q)
+
+-- ---- the answer that came
+
+-- an answer that isn't brought from outside is due
+came : (cluster : ClusterBytes) (input : List ℕ) (status other : Status) → IsOutside status ⊎ IsDue cluster input status → status ≡ other → (IsOutside other → ⊥) → IsDue cluster input other
+came cluster input status other (◌⊎◌.inl outside) is not = absurd (not (subst IsOutside is outside))
+came cluster input status other (◌⊎◌.inr due) is not = subst (λ s. IsDue cluster input s) is due
+
+pub came_told : (told : Option ClusterBytes) (left : Option (List ℕ)) (status other : Status) → IfSome told (λ c. IfSome left (λ input. IsOutside status ⊎ IsDue c input status)) →
+    status ≡ other → (IsOutside other → ⊥) → IfSome told (λ c. IfSome left (λ input. IsDue c input other))
+came_told None left status other due is not = tt
+came_told (Some c) None status other due is not = tt
+came_told (Some c) (Some input) status other due is not = came c input status other due is not
+
+-- the answer that is due comes, but for one that is brought from outside
+comes : Laws → (cluster : ClusterBytes) (input : List ℕ) (status other : Status) → IsOutside status ⊎ IsDue cluster input status → IsDue cluster input other → IsOutside status ⊎ (status ≡ other)
+comes laws cluster input status other (◌⊎◌.inl outside) due = ◌⊎◌.inl outside
+comes laws cluster input status other (◌⊎◌.inr came) due = ◌⊎◌.inr (due_once laws cluster input status other came due)
+
+pub comes_told : Laws → (told : Option ClusterBytes) (left : Option (List ℕ)) (status other : Status) → IfSome told (λ c. IfSome left (λ input. IsOutside status ⊎ IsDue c input status)) →
+    IfSome told (λ c. IfSome left (λ input. IsDue c input other → IsOutside status ⊎ (status ≡ other)))
+comes_told laws None left status other due = tt
+comes_told laws (Some c) None status other due = tt
+comes_told laws (Some c) (Some input) status other due = comes laws c input status other due
+
+-- a shard that was asked for, and what it asks for
+asked_due : (cluster : ClusterBytes) (input : List ℕ) (name : ShardName) (start : Start) (shard : Option Shard) (status : Status) → Asks input name start → find_shard cluster name ≡ shard →
+    ShardAsksFor shard name start status → IsDue cluster input status
+asked_due cluster input name start None status asks found for =
+    subst (λ s. IsDue cluster input s) (sym for) (start, asks, found)
+asked_due cluster input name start (Some shard) Done asks found for = (name, start, shard, asks, found, for)
+asked_due cluster input name start (Some shard) (BadLog n offset why) asks found for = (name, start, shard, asks, found, for)
+asked_due cluster input name start (Some shard) (Purged n missing) asks found for = (name, start, shard, asks, found, for)
+asked_due cluster input name start (Some shard) (PositionTooLarge n) asks found for = (name, start, shard, asks, found, for)
+asked_due cluster input name start (Some shard) Memory asks found for = (name, start, shard, asks, found, for)
+asked_due cluster input name start (Some shard) Usage asks found for = (name, start, shard, asks, found, for)
+asked_due cluster input name start (Some shard) (BadFrame number frame_why) asks found for = (name, start, shard, asks, found, for)
+asked_due cluster input name start (Some shard) (FeedFault n) asks found for = (name, start, shard, asks, found, for)
+asked_due cluster input name start (Some shard) LinkFault asks found for = (name, start, shard, asks, found, for)
+asked_due cluster input name start (Some shard) InputFault asks found for = (name, start, shard, asks, found, for)
+asked_due cluster input name start (Some shard) (OpenFault n) asks found for = (name, start, shard, asks, found, for)
+asked_due cluster input name start (Some shard) (Request fault) asks found for = absurd (none (shard_log name shard.log) start for)
+  where
+    none : (log : Log) (start : Start) → LogAsksFor name log start (Request fault) → ⊥
+    none log (At p) asks = asks
+    none log Current asks = asks
+asked_due cluster input name start (Some shard) (UnknownShard n) asks found for = absurd (none (shard_log name shard.log) start for)
+  where
+    none : (log : Log) (start : Start) → LogAsksFor name log start (UnknownShard n) → ⊥
+    none log (At p) asks = asks
+    none log Current asks = asks
+
+pub asked_told : (told told_then : Option ClusterBytes) (left : Option (List ℕ)) (name : ShardName) (start : Start) (status : Status) → told_then ≡ told → IfSome left (λ input. Asks input name start) →
+    IfSome told_then (λ c. IsOutside status ⊎ ShardAsksFor (find_shard c name) name start status) → IfSome told (λ c. IfSome left (λ input. IsOutside status ⊎ IsDue c input status))
+asked_told told told_then left name start status same asks due = go told left asks (subst (λ t. IfSome t (λ c. IsOutside status ⊎ ShardAsksFor (find_shard c name) name start status)) same due)
+  where
+    each : (c : ClusterBytes) (input : List ℕ) → Asks input name start → IsOutside status ⊎ ShardAsksFor (find_shard c name) name start status → IsOutside status ⊎ IsDue c input status
+    each c input asks (◌⊎◌.inl outside) = ◌⊎◌.inl outside
+    each c input asks (◌⊎◌.inr for) = ◌⊎◌.inr (asked_due c input name start (find_shard c name) status asks refl for)
+
+    go : (told : Option ClusterBytes) (left : Option (List ℕ)) → IfSome left (λ input. Asks input name start) → IfSome told (λ c. IsOutside status ⊎ ShardAsksFor (find_shard c name) name start status) →
+        IfSome told (λ c. IfSome left (λ input. IsOutside status ⊎ IsDue c input status))
+    go None left asks due = tt
+    go (Some c) None asks due = tt
+    go (Some c) (Some input) asks due = each c input asks due
+
+-- an input with this fault asks for no shard
+pub not_faulty : Laws → (left : Option (List ℕ)) (name : ShardName) (start : Start) (fault : RequestFault) (P : Type 0) → IfSome left (λ input. Asks input name start) → IfSome left (λ input. IsFaultOf input fault → P)
+not_faulty laws None name start fault P asks = tt
+not_faulty laws (Some input) name start fault P asks = λ is. absurd (not_asked laws input name start fault asks is)
+
+-- an input has one fault
+pub faulty_once : Laws → (left : Option (List ℕ)) (f g : RequestFault) → IfSome left (λ input. IsFaultOf input f) → IfSome left (λ input. IsFaultOf input g → IsOutside (Request f) ⊎ (Request f ≡ Request g))
+faulty_once laws None f g is = tt
+faulty_once laws (Some input) f g is = λ too. ◌⊎◌.inr (ap (λ x. Request x) (fault_once laws input f g is too))
+
+-- a fault is due whatever the cluster
+pub fault_told : (told : Option ClusterBytes) (left : Option (List ℕ)) (fault : RequestFault) → IfSome left (λ input. IsFaultOf input fault) →
+    IfSome told (λ c. IfSome left (λ input. IsOutside (Request fault) ⊎ IsDue c input (Request fault)))
+fault_told None left fault is = tt
+fault_told (Some c) None fault is = tt
+fault_told (Some c) (Some input) fault is = ◌⊎◌.inr is
+
+-- an answer from outside
+pub outside_told : (told : Option ClusterBytes) (left : Option (List ℕ)) (status : Status) → IsOutside status → IfSome told (λ c. IfSome left (λ input. IsOutside status ⊎ IsDue c input status))
+outside_told None left status outside = tt
+outside_told (Some c) None status outside = tt
+outside_told (Some c) (Some input) status outside = ◌⊎◌.inl outside
+
+-- ---- the shard's log that was read
+
+pub due_streamed : (told : Option ClusterBytes) (s : ShardName) (start : Start) (status : Status) (bytes : List ℕ) → IfSome told (λ c. (shard : Shard) × (find_shard c s ≡ Some shard) × (bytes ≡ shard.log)) →
+    IsOutside status ⊎ LogAsksFor s (shard_log s bytes) start status → IfSome told (λ c. IsOutside status ⊎ ShardAsksFor (find_shard c s) s start status)
+due_streamed None s start status bytes fetched due = tt
+due_streamed (Some c) s start status bytes fetched (◌⊎◌.inl outside) = ◌⊎◌.inl outside
+due_streamed (Some c) s start status bytes (shard, found, is) (◌⊎◌.inr asks) =
+    ◌⊎◌.inr (subst (λ o. ShardAsksFor o s start status) (sym found) (subst (λ b. LogAsksFor s (shard_log s b) start status) is asks))
+
+pub due_unknown : (told : Option ClusterBytes) (s : ShardName) (start : Start) → IfSome told (λ c. find_shard c s ≡ None) →
+    IfSome told (λ c. IsOutside (UnknownShard s) ⊎ ShardAsksFor (find_shard c s) s start (UnknownShard s))
+due_unknown None s start none = tt
+due_unknown (Some c) s start none = ◌⊎◌.inr (subst (λ o. ShardAsksFor o s start (UnknownShard s)) (sym none) refl)
+
+-- what was taken where a stream was asked for
+pub has_read : (before now : Option (List ℕ)) (status : Status) → IsOfStream status → TakesOf before now (λ taken rest. IsFrame taken) → HasRead before now status
+has_read before now Done kind took = took
+has_read before now Memory kind took = tt
+has_read before now Usage kind took = absurd kind
+has_read before now (BadFrame number frame_why) kind took = absurd kind
+has_read before now (Request fault) kind took = absurd kind
+has_read before now InputFault kind took = absurd kind
+has_read before now (UnknownShard name) kind took = took
+has_read before now (Purged name missing) kind took = took
+has_read before now (BadLog name offset why) kind took = took
+has_read before now (FeedFault name) kind took = took
+has_read before now LinkFault kind took = took
+has_read before now (OpenFault name) kind took = took
+has_read before now (PositionTooLarge name) kind took = took
+
+-- what is said of any cluster and any input
+pub told_any : (told : Option ClusterBytes) (left : Option (List ℕ)) (P : ClusterBytes → List ℕ → Type 0) → ((c : ClusterBytes) (input : List ℕ) → P c input) → IfSome told (λ c. IfSome left (λ input. P c input))
+told_any None left P all = tt
+told_any (Some c) None P all = tt
+told_any (Some c) (Some input) P all = all c input

@@ -1,0 +1,48 @@
+use Rattle.std.proofs.Common.{refl}
+use Rattle.std.specs.Prelude.{◌⊎◌}
+use Rattle.vs_command.proofs.AnswerLemmas.{Writes-streamed, Writes-unread, told_always, told_so}
+use Rattle.vs_command.proofs.DueLemmas.{due_streamed, due_unknown}
+use Rattle.vs_command.proofs.connection.stream_shard.Goals as goal
+
+pub returns-in-Ok-Some-clause-answers : goal.returns-in-Ok-Some-clause-answers
+returns-in-Ok-Some-clause-answers g c =
+    let fetched = rw c.in-Ok-Some.field-0-is at c.in-Ok-Some.ensures.log in
+    let marked = rw c.in-Ok-Some.field-0-is at c.in-Ok-Some.ensures.marked in
+    Writes-streamed c.laws.ensures (g.T.Tablets.cluster c.args.tablets.now) c.args.asked.name c.args.asked.start c.in-Ok-Some.fetched.mark _ _ c.in-Ok-Some.fetched.log.items _ _
+    fetched marked c.stream_log.ensures.wrote
+
+pub returns-in-Ok-None-clause-answers : goal.returns-in-Ok-None-clause-answers
+returns-in-Ok-None-clause-answers g c =
+    let absent = rw c.in-Ok-None.field-0-is at c.in-Ok-None.ensures.log in
+    Writes-unread (g.T.Tablets.cluster c.args.tablets.now) c.args.asked.name c.args.asked.start _ _ _ (told_so _ _ (g.T.Tablets.cluster c.args.tablets.now) (λ k p. (refl, p)) absent)
+
+pub returns-in-Err-Memory-clause-answers : goal.returns-in-Err-Memory-clause-answers
+returns-in-Err-Memory-clause-answers g c =
+    Writes-unread (g.T.Tablets.cluster c.args.tablets.now) c.args.asked.name c.args.asked.start _ _ _ (told_always _ (g.T.Tablets.cluster c.args.tablets.now) (λ _. tt))
+
+pub returns-in-Err-OpenFault-clause-answers : goal.returns-in-Err-OpenFault-clause-answers
+returns-in-Err-OpenFault-clause-answers g c =
+    Writes-unread (g.T.Tablets.cluster c.args.tablets.now) c.args.asked.name c.args.asked.start _ _ _ (told_always _ (g.T.Tablets.cluster c.args.tablets.now) (λ _. refl))
+
+pub returns-in-Err-FeedFault-clause-answers : goal.returns-in-Err-FeedFault-clause-answers
+returns-in-Err-FeedFault-clause-answers g c =
+    Writes-unread (g.T.Tablets.cluster c.args.tablets.now) c.args.asked.name c.args.asked.start _ _ _ (told_always _ (g.T.Tablets.cluster c.args.tablets.now) (λ _. refl))
+
+pub returns-in-Ok-Some-clause-due : goal.returns-in-Ok-Some-clause-due
+returns-in-Ok-Some-clause-due g c =
+    let fetched = rw c.in-Ok-Some.field-0-is at c.in-Ok-Some.ensures.log in
+    due_streamed (g.T.Tablets.cluster c.args.tablets.now) c.args.asked.name c.args.asked.start _ c.in-Ok-Some.fetched.log.items fetched c.stream_log.ensures.due
+
+pub returns-in-Ok-None-clause-due : goal.returns-in-Ok-None-clause-due
+returns-in-Ok-None-clause-due g c =
+    let absent = rw c.in-Ok-None.field-0-is at c.in-Ok-None.ensures.log in
+    due_unknown (g.T.Tablets.cluster c.args.tablets.now) c.args.asked.name c.args.asked.start absent
+
+pub returns-in-Err-Memory-clause-due : goal.returns-in-Err-Memory-clause-due
+returns-in-Err-Memory-clause-due g c = told_always _ (g.T.Tablets.cluster c.args.tablets.now) (λ _. ◌⊎◌.inl tt)
+
+pub returns-in-Err-OpenFault-clause-due : goal.returns-in-Err-OpenFault-clause-due
+returns-in-Err-OpenFault-clause-due g c = told_always _ (g.T.Tablets.cluster c.args.tablets.now) (λ _. ◌⊎◌.inl tt)
+
+pub returns-in-Err-FeedFault-clause-due : goal.returns-in-Err-FeedFault-clause-due
+returns-in-Err-FeedFault-clause-due g c = told_always _ (g.T.Tablets.cluster c.args.tablets.now) (λ _. ◌⊎◌.inl tt)

@@ -1,0 +1,124 @@
+-- The frame that asks for a stream, at the front of the input, and what is wrong with an input.
+use Rattle.std.specs.Prelude.{◌≡◌, ◌≢◌, ◌≤◌, ◌<◌, ◌+◌, ◌^◌, ◌⊎◌, ℕ, Bool, false, ◌&&◌, not, nat_eq, List, [], ◌∷◌, ◌++◌, length, Option, Some, None, Result, Ok, Err}
+use Rattle.std.specs.Int.{w32, to_be_bytes}
+use Rattle.vs_base.specs.declared.ShardName.{ShardName}
+use Rattle.vs_frame.specs.Frames.{Begins, IsPart, IsTooLong, IsWithinLimit, framed}
+use Rattle.vs_request.specs.Requests.{Says}
+use Rattle.vs_request.specs.declared.request.Flags.{Flags}
+use Rattle.vs_request.specs.declared.request.Request.{Request}
+use Rattle.vs_request.specs.declared.request.StartAt.{StartAt}
+use Rattle.vs_request.specs.declared.request.StartAt.TheVariants as at
+use Rattle.vs_request.specs.declared.request.Wanted.{Wanted}
+use Rattle.vs_request.specs.declared.refusal.RequestRefusal.{RequestRefusal}
+use Rattle.vs_request.specs.declared.refusal.RequestRefusal.TheVariants as refusals
+use Rattle.vs_command.specs.declared.request.RequestEnd.{RequestEnd}
+use Rattle.vs_command.specs.declared.request.RequestEnd.TheVariants as ends
+use Rattle.vs_command.specs.declared.start.Start.{Start}
+use Rattle.vs_command.specs.declared.start.Start.TheVariants.{At, Current}
+use Rattle.vs_command.specs.declared.status.RequestFault.{RequestFault}
+use Rattle.vs_command.specs.declared.status.RequestFault.TheVariants.{Cut, TooLong, Message, NoShards, TooManyShards, BadName, BadPosition, NeedsShard, TooManyKeys, LongKey, TooManyRules, NotBuilt}
+
+-- What was read of a source is the front of what it had left, and the rest is left; P says more of both.
+abbrev pub TakesOf : Option (List ℕ) → Option (List ℕ) → (List ℕ → List ℕ → Type 0) → Type 0
+TakesOf None now P = Unit {0}
+TakesOf (Some before) now P = (taken rest : List ℕ) × (before ≡ taken ++ rest) × (now ≡ Some rest) × P taken rest
+
+-- the input begins with a frame whose message says this
+abbrev pub BeginsWith : List ℕ → Result Request RequestRefusal → Type 0
+BeginsWith input said = (message rest : List ℕ) × Begins input message rest × Says message said
+
+-- no time to skew by or to beat at, and no word on journals
+abbrev pub no_flags : Flags
+no_flags = record { max_skew = 0; heartbeat_interval = 0; stop_on_reshard = false; include_journals = false }
+
+abbrev pub start_of : Start → StartAt
+start_of (At set) = at.At set
+start_of Current = at.Current
+
+-- the entry of a shard without a last key
+abbrev pub entry_of : ShardName → Start → Wanted
+entry_of name start = record { keyspace = name.keyspace; shard = name.shard; start = start_of start; last_key = None }
+
+-- The request asks for this one shard from this start, and for nothing else.
+pub record IsPlain (request : Request) (name : ShardName) (start : Start) : Type 0 where
+  pub entries : request.entries ≡ entry_of name start ∷ []
+  pub shard : name.shard ≢ []
+  pub rules : request.rules ≡ []
+  pub flags : request.flags ≡ no_flags
+
+-- the entry asks for a copy, for all shards of a keyspace, or names a last key
+abbrev pub IsUnbuilt : Wanted → Type 0
+IsUnbuilt wanted = (wanted.start ≡ at.Fresh) ⊎ ((wanted.shard ≡ []) ⊎ (wanted.last_key ≢ None))
+
+-- What of a request this release doesn't do: more entries than one; or, at the one entry, something that it asks for, rules or flags.
+abbrev pub IsNotBuilt : Request → ℕ → Type 0
+IsNotBuilt request index =
+    ((index ≡ 1) × (2 ≤ length request.entries))
+    ⊎ ((index ≡ 0) × (wanted : Wanted) × (request.entries ≡ wanted ∷ []) × (IsUnbuilt wanted ⊎ ((request.rules ≢ []) ⊎ (request.flags ≢ no_flags))))
+
+-- The input begins with a frame that asks for this shard, from this start.
+abbrev pub Asks : List ℕ → ShardName → Start → Type 0
+Asks input name start = (request : Request) × BeginsWith input (Ok request) × IsPlain request name start
+
+-- What is wrong with a message: it has a fault, or what it asks for isn't built.
+abbrev pub IsFaultOfMessage : List ℕ → RequestFault → Type 0
+IsFaultOfMessage message (Cut held) = ⊥
+IsFaultOfMessage message (TooLong n) = ⊥
+IsFaultOfMessage message (Message why) = Says message (Err (refusals.Message why))
+IsFaultOfMessage message NoShards = Says message (Err refusals.NoShards)
+IsFaultOfMessage message (TooManyShards n) = Says message (Err (refusals.TooManyShards n))
+IsFaultOfMessage message (BadName index) = Says message (Err (refusals.BadName index))
+IsFaultOfMessage message (BadPosition index at) = Says message (Err (refusals.BadPosition index at))
+IsFaultOfMessage message (NeedsShard index) = Says message (Err (refusals.NeedsShard index))
+IsFaultOfMessage message (TooManyKeys index) = Says message (Err (refusals.TooManyKeys index))
+IsFaultOfMessage message (LongKey index) = Says message (Err (refusals.LongKey index))
+IsFaultOfMessage message (TooManyRules n) = Says message (Err (refusals.TooManyRules n))
+IsFaultOfMessage message (NotBuilt index) = (request : Request) × Says message (Ok request) × IsNotBuilt request index
+
+-- the input begins with a frame whose message has this fault
+abbrev pub BeginsWithFault : List ℕ → RequestFault → Type 0
+BeginsWithFault input fault = (message rest : List ℕ) × Begins input message rest × IsFaultOfMessage message fault
+
+-- What is wrong with the input: it ends before a frame is whole, its length is too long, or the message of its first frame has a fault.
+abbrev pub IsFaultOf : List ℕ → RequestFault → Type 0
+IsFaultOf input (Cut held) = IsPart input × (held ≡ length input)
+IsFaultOf input (TooLong n) = IsTooLong input n
+IsFaultOf input fault = BeginsWithFault input fault
+
+-- a refusal of the message, as the end of the reading that it is
+abbrev pub end_of : RequestRefusal → RequestEnd
+end_of refusals.Memory = ends.Memory
+end_of (refusals.Message why) = ends.Fault (Message why)
+end_of refusals.NoShards = ends.Fault NoShards
+end_of (refusals.TooManyShards n) = ends.Fault (TooManyShards n)
+end_of (refusals.BadName index) = ends.Fault (BadName index)
+end_of (refusals.BadPosition index at) = ends.Fault (BadPosition index at)
+end_of (refusals.NeedsShard index) = ends.Fault (NeedsShard index)
+end_of (refusals.TooManyKeys index) = ends.Fault (TooManyKeys index)
+end_of (refusals.LongKey index) = ends.Fault (LongKey index)
+end_of (refusals.TooManyRules n) = ends.Fault (TooManyRules n)
+
+abbrev pub has_no_flags : Flags → Bool
+has_no_flags flags = nat_eq flags.max_skew 0 && (nat_eq flags.heartbeat_interval 0 && (not flags.stop_on_reshard && not flags.include_journals))
+
+-- ---- what was taken of the input
+
+-- the bytes begin with this length, in four bytes, the highest first
+abbrev pub SaysLength : List ℕ → ℕ → Type 0
+SaysLength bytes n = (n < 2 ^ 32) × (rest : List ℕ) × (bytes ≡ to_be_bytes w32 n ++ rest) × (length rest + 4 ≡ length bytes)
+
+-- just a frame
+abbrev pub IsFrame : List ℕ → Type 0
+IsFrame taken = (message : List ℕ) × (taken ≡ framed message) × IsWithinLimit message
+
+-- what was taken where no frame is there: all, of which is less than a frame; or the length that is too long, and no byte behind it
+abbrev pub HasEnded : RequestFault → List ℕ → List ℕ → Type 0
+HasEnded (Cut held) taken rest = IsPart taken × (held ≡ length taken) × (rest ≡ [])
+HasEnded (TooLong n) taken rest = IsTooLong taken n × (length taken ≡ 4)
+HasEnded fault taken rest = ⊥
+
+-- what was taken before the input was refused
+abbrev pub HasTaken : RequestFault → List ℕ → List ℕ → Type 0
+HasTaken (Cut held) taken rest = rest ≡ []
+HasTaken (TooLong n) taken rest = length taken ≡ 4
+HasTaken fault taken rest = IsFrame taken

@@ -1,0 +1,101 @@
+ghost use Rattle.std.specs.Prelude.{◌≡◌, ◌≤◌, ◌⊎◌, IfSome};
+ghost use Rattle.vs_base.specs.declared.ShardName.{ShardName};
+ghost use Rattle.vs_outside.specs.Clusters.{find_shard};
+ghost use Rattle.vs_outside.specs.Counts.{Rose};
+ghost use Rattle.vs_outside.specs.Told.{Writes};
+ghost use Rattle.vs_command.specs.declared.status.RequestFault.{RequestFault};
+ghost use Rattle.vs_command.specs.declared.status.Status.{Status};
+ghost use Rattle.vs_command.specs.Causes.{HasRead, IsDue, IsOutside, ShardAsksFor};
+ghost use Rattle.vs_command.specs.Laws.{Laws};
+ghost use Rattle.vs_command.specs.Requests.{IsFaultOf};
+ghost use Rattle.vs_command.specs.Streaming.{Headline, IsOfStream, Outcome};
+
+use crate::fetch::{FetchEnd, fetch_log};
+use crate::options::Options;
+use crate::request::{Asked, RequestEnd, read_request};
+use crate::status::Status;
+use crate::streaming::stream_log;
+use std::alloc::Global;
+use std::sync::Wait;
+use vs_entries::law_built;
+use vs_frame::law_front;
+use vs_log::law_distinct;
+use vs_model::{law_due, law_frames, law_steps};
+use vs_outside::{Clock, Sink, Source, Tablets};
+use vs_request::law_requests;
+
+/// The laws of the crates below, on which the headline and the causes of answers stand.
+fn laws()
+    ensures { Laws }
+{
+    law_steps();
+    law_frames();
+    law_due();
+    law_distinct();
+    law_built();
+    law_front();
+    law_requests();
+}
+
+/// Streams a shard of the tablets, from a start to the end of its log.
+fn stream_shard<R: Wait, O: Sink, T: Tablets>(
+    rt: &R,
+    alloc: Global,
+    asked: Asked,
+    output: &mut O,
+    tablets: &mut T,
+) -> Status
+    ensures answers { IfSome (T.cluster tablets.old) (λ c. Writes (O.sent output.old) (O.sent output.new) (Outcome c asked.name asked.start (Rose (T.waits tablets.old asked.name) (T.waits tablets.new asked.name)) result)) }
+    ensures due { IfSome (T.cluster tablets.old) (λ c. IsOutside result ⊎ ShardAsksFor (find_shard c asked.name) asked.name asked.start result) }
+    ensures kind { IsOfStream result }
+    ensures link { result ≡ Status.LinkFault → Rose (O.faults output.old) (O.faults output.new) }
+    ensures feed { (n : ShardName) → result ≡ Status.FeedFault n → Rose (T.faults tablets.old n) (T.faults tablets.new n) }
+    ensures opening { (n : ShardName) → result ≡ Status.OpenFault n → Rose (T.open_faults tablets.old n) (T.open_faults tablets.new n) }
+{
+    laws();
+    let Asked { name, start } = asked;
+    match fetch_log(rt, alloc, tablets, &name) {
+        Ok(Some(fetched)) => stream_log(alloc, output, name, start, &fetched),
+        Ok(None) => Status::UnknownShard { name },
+        Err(FetchEnd::Memory) => Status::Memory,
+        Err(FetchEnd::OpenFault) => Status::OpenFault { name },
+        Err(FetchEnd::FeedFault) => Status::FeedFault { name },
+    }
+}
+
+/// Reads one request frame, and writes a frame for each transaction of the shard that its position
+/// lacks. Nothing behind the request is used. A log's end ends the stream, whatever the options say,
+/// and one shard needs no queue.
+pub fn connection<R: Wait, I: Source, O: Sink, T: Tablets, C: Clock>(
+    rt: &R,
+    alloc: Global,
+    options: Options,
+    input: &mut I,
+    output: &mut O,
+    tablets: &mut T,
+    _clock: &mut C,
+) -> Status
+    requires low { 1 ≤ options.capacity }
+    requires high { options.capacity ≤ 16 }
+    ensures headline { IfSome (T.cluster tablets.old) (λ c. IfSome (I.left input.old) (λ bytes. Writes (O.sent output.old) (O.sent output.new) (Headline c (λ n. Rose (T.waits tablets.old n) (T.waits tablets.new n)) bytes result))) }
+
+    // when each answer comes
+    ensures due { IfSome (T.cluster tablets.old) (λ c. IfSome (I.left input.old) (λ bytes. IsOutside result ⊎ IsDue c bytes result)) }
+    ensures only { (status : Status) → IfSome (T.cluster tablets.old) (λ c. IfSome (I.left input.old) (λ bytes. IsDue c bytes status → IsOutside result ⊎ (result ≡ status))) }
+    ensures request { (fault : RequestFault) → result ≡ Status.Request fault → IfSome (I.left input.old) (λ bytes. IsFaultOf bytes fault) }
+    ensures request_when { (fault : RequestFault) → IfSome (I.left input.old) (λ bytes. IsFaultOf bytes fault → IsOutside result ⊎ (result ≡ Status.Request fault)) }
+    ensures words { result ≡ Status.Usage → ⊥ }
+    ensures taken { HasRead (I.left input.old) (I.left input.new) result }
+    ensures link { result ≡ Status.LinkFault → Rose (O.faults output.old) (O.faults output.new) }
+    ensures input { result ≡ Status.InputFault → Rose (I.faults input.old) (I.faults input.new) }
+    ensures feed { (name : ShardName) → result ≡ Status.FeedFault name → Rose (T.faults tablets.old name) (T.faults tablets.new name) }
+    ensures opening { (name : ShardName) → result ≡ Status.OpenFault name → Rose (T.open_faults tablets.old name) (T.open_faults tablets.new name) }
+{
+    laws();
+    match read_request(alloc, input) {
+        Ok(asked) => stream_shard(rt, alloc, asked, output, tablets),
+        Err(RequestEnd::Memory) => Status::Memory,
+        Err(RequestEnd::InputFault) => Status::InputFault,
+        Err(RequestEnd::Fault(fault)) => Status::Request(fault),
+    }
+}
