@@ -1,7 +1,7 @@
-use crate::Gtid;
+use crate::{Gtid, Text};
 
 /// What is wrong with an event of a log. The place of the event is told beside it.
-#[derive(Debug, Clone, Copy, PartialEq, Eq)]
+#[derive(Debug, Drop, PartialEq, Eq)]
 pub enum Why {
     /// A byte of the magic number differs.
     BadMagic,
@@ -33,8 +33,18 @@ pub enum Why {
     TooLarge { bytes: u64 },
     /// The GTIDs of the log have over 1,024 intervals.
     TooManyIntervals,
+    /// No table map of the transaction has this number.
+    UnknownTableId { id: u64 },
+    /// The schema text lacks a table of the keyspace.
+    UnknownTable { table: Text },
+    /// The columns of a table map aren't those of the schema text.
+    Disagrees { table: Text },
+    /// An image of a row lacks a column.
+    NotFullImage { table: Text },
+    /// The rows are cut, or one of them is none of the table.
+    BadRow { table: Text },
     /// A journal stands beside other changes.
     JournalNotAlone,
-    /// The log goes on with what this release does not read.
+    /// The log goes on with what this release does not do.
     NotBuilt,
 }

@@ -1,7 +1,9 @@
--- What was written of a shard's log answers the line that asks for the shard.
+-- What was written of a shard's log answers the request that asks for the shard.
 use Rattle.std.proofs.Common.{◌≡◌, ◌≢◌, ℕ, Bool, true, false, List, [], ◌∷◌, ◌++◌, Option, Some, None, if◌then◌else◌, refl, sym, ap, subst, ◌∙◌}
 use Rattle.std.specs.Prelude.{◌⊎◌, IfSome}
+use Rattle.vs_base.specs.declared.Gtid.{Gtid}
 use Rattle.vs_base.specs.declared.ShardName.{ShardName}
+use Rattle.vs_base.specs.declared.Why.{Why}
 use Rattle.vs_base.specs.Names.{same_name}
 use Rattle.vs_base.proofs.NameLemmas.{same_name-is}
 use Rattle.vs_gtid.specs.declared.Entry.{Entry}
@@ -11,7 +13,7 @@ use Rattle.vs_outside.specs.Clusters.{Shard, ClusterBytes, find_shard}
 use Rattle.vs_outside.specs.Counts.{Rose}
 use Rattle.vs_outside.specs.Told.{Writes}
 use Rattle.vs_outside.proofs.ToldLemmas.{Writes-none, Writes-weaken}
-use Rattle.vs_entries.specs.Rules.{rules_of}
+use Rattle.vs_command.specs.declared.fetched.Fetched.{Fetched}
 use Rattle.vs_model.specs.Logs.{Cluster, LogsAreDistinct, log_of, after, due, stop, IsPositionAfter}
 use Rattle.vs_model.specs.Vectors.{Place, place_of}
 use Rattle.vs_model.specs.Vectors.Place.{Streaming}
@@ -23,28 +25,33 @@ use Rattle.vs_command.specs.declared.status.Status.TheVariants as statuses
 use Rattle.vs_command.specs.declared.start.Start.{Start}
 use Rattle.vs_command.specs.declared.start.Start.TheVariants.{At, Current}
 use Rattle.vs_command.specs.Sending.{IsNextTooLarge, vector_at, position_after, entry_frames}
-use Rattle.vs_command.specs.Laws.{AreBuilt, LawOfNewGtids, Laws}
+use Rattle.vs_command.specs.Built.{AreBuilt, IsNextUnbuilt}
+use Rattle.vs_command.specs.Fetched.{IsFetchedOf, IsOfShard, IsPlaced, read_as}
+use Rattle.vs_command.specs.Laws.{AreNoJournals, LawOfNewGtids, Laws}
 use Rattle.vs_command.specs.Requests.{Asks}
 use Rattle.vs_command.specs.Streaming.Headline.{asked, silent}
 use Rattle.vs_command.specs.Streaming.Outcome.{unread, answers}
-use Rattle.vs_command.specs.Streaming.{Answers, Headline, HasCause, HasLogCause, HasSentAll, IsStart, IsStreamed, IsStreamedFrom, IsUnread, Outcome, cluster_meant, shard_log, start_at, takes_all}
-use Rattle.vs_command.proofs.LegalLemmas.{after_all, after_built, steps_sent, copies_sent, last_sent, due_all, stop_none}
+use Rattle.vs_command.specs.Streaming.{Answers, Headline, HasBadLogCause, HasCause, HasFault, HasLogCause, HasSentAll, IsStart, IsStreamed, IsStreamedFrom, IsUnread, Outcome, cluster_meant, places_in, shard_log, shard_places, shard_rules, schema_in, start_at, takes_all}
+use Rattle.vs_command.proofs.BuiltLemmas.{placed_so}
+use Rattle.vs_command.proofs.SendLemmas.{spelled_built}
+use Rattle.vs_command.proofs.StreamLemmas.{IsStreamedFrom-weaken}
+use Rattle.vs_command.proofs.LegalLemmas.{after_all, steps_sent, copies_sent, last_sent, due_all, stop_none}
 
 -- the log of a shard of the cluster is what its bytes mean
-log_of-meant : (cluster : ClusterBytes) (s : ShardName) (shard : Shard) → find_shard cluster s ≡ Some shard → log_of (cluster_meant cluster) s ≡ shard_log s shard.log
+log_of-meant : (cluster : ClusterBytes) (s : ShardName) (shard : Shard) → find_shard cluster s ≡ Some shard → log_of (cluster_meant cluster) s ≡ shard_log s shard.schema shard.log
 log_of-meant [] s shard h = cc
 log_of-meant (x ∷ cluster) s shard h = go (same_name x.name s) (λ found. log_of-meant cluster s shard found) refl h
   where
-    go : (b : Bool) → (find_shard cluster s ≡ Some shard → log_of (cluster_meant cluster) s ≡ shard_log s shard.log) → same_name x.name s ≡ b →
-        (if b then Some x else find_shard cluster s) ≡ Some shard → (if b then shard_log x.name x.log else log_of (cluster_meant cluster) s) ≡ shard_log s shard.log
+    go : (b : Bool) → (find_shard cluster s ≡ Some shard → log_of (cluster_meant cluster) s ≡ shard_log s shard.schema shard.log) → same_name x.name s ≡ b →
+        (if b then Some x else find_shard cluster s) ≡ Some shard → (if b then shard_log x.name x.schema x.log else log_of (cluster_meant cluster) s) ≡ shard_log s shard.schema shard.log
     go true later e found =
         let it : x ≡ shard = cc in
-        ap (λ n. shard_log n x.log) (same_name-is x.name s e) ∙ ap (λ (y : Shard). shard_log s y.log) it
+        ap (λ n. shard_log n x.schema x.log) (same_name-is x.name s e) ∙ ap (λ (y : Shard). shard_log s y.schema y.log) it
     go false later e found = later found
 
 distinct_meant : LawOfNewGtids → (cluster : ClusterBytes) → LogsAreDistinct (cluster_meant cluster)
 distinct_meant law [] s = tt
-distinct_meant law (x ∷ cluster) s = either (same_name x.name s) (shard_log x.name x.log) (log_of (cluster_meant cluster) s) (law (rules_of x.name.keyspace) x.log).distinct (distinct_meant law cluster s)
+distinct_meant law (x ∷ cluster) s = either (same_name x.name s) (shard_log x.name x.schema x.log) (log_of (cluster_meant cluster) s) (law (shard_rules x.name x.schema) x.log).distinct (distinct_meant law cluster s)
   where
     either : (b : Bool) (l m : Log) → HaveDistinctGtids l.entries → HaveDistinctGtids m.entries → HaveDistinctGtids (if b then l else m).entries
     either true l m p q = p
@@ -68,71 +75,88 @@ at_only s t p place h = go (same_name s t) refl h
     go true e found = (same_name-is s t e, cc)
     go false e found = absurd (cc)
 
-front_of : (xs ys : List Entry) → AreBuilt (xs ++ ys) → AreBuilt xs
-front_of [] ys h = tt
-front_of (x ∷ xs) ys h = (h.0, front_of xs ys h.1)
-
 -- what is due behind the entries that were sent
-due_behind : Laws → (cluster : Cluster) (s : ShardName) → LogsAreDistinct cluster → AreBuilt (log_of cluster s).entries → (p : Position) (sent rest : List Entry) →
+due_behind : Laws → (cluster : Cluster) (s : ShardName) → LogsAreDistinct cluster → AreNoJournals (log_of cluster s).entries → (p : Position) (sent rest : List Entry) →
     after (log_of cluster s) p ≡ sent ++ rest → due s (log_of cluster s) (position_after p sent) ≡ rest
-due_behind laws cluster s distinct built p sent rest are =
-    laws.due s (log_of cluster s) p (position_after p sent) sent rest (distinct s) (due_all s (log_of cluster s) p built ∙ are) (after_all p sent)
+due_behind laws cluster s distinct plain p sent rest are =
+    laws.due s (log_of cluster s) p (position_after p sent) sent rest (distinct s) (due_all s (log_of cluster s) p plain ∙ are) (after_all p sent)
 
-settled_at : Laws → (cluster : Cluster) (s : ShardName) → LogsAreDistinct cluster → AreBuilt (log_of cluster s).entries → (p : Position) (sent rest : List Entry) →
+settled_at : Laws → (cluster : Cluster) (s : ShardName) → LogsAreDistinct cluster → AreNoJournals (log_of cluster s).entries → (p : Position) (sent rest : List Entry) →
     after (log_of cluster s) p ≡ sent ++ rest → rest ≡ [] → IsSettled cluster (vector_at s (position_after p sent))
-settled_at laws cluster s distinct built p sent rest are none t place h =
+settled_at laws cluster s distinct plain p sent rest are none t place h =
     let log : Log = log_of cluster s in
     let q : Position = position_after p sent in
     let it = at_only s t q place h in
-    let none_due : due s log q ≡ [] = due_behind laws cluster s distinct built p sent rest are ∙ none in
+    let none_due : due s log q ≡ [] = due_behind laws cluster s distinct plain p sent rest are ∙ none in
     let none_stops : stop s log q ≡ None =
-    laws.stop s log p q sent rest (distinct s) (due_all s log p built ∙ are) (after_all p sent) ∙ stop_none s log p built in
+    laws.stop s log p q sent rest (distinct s) (due_all s log p plain ∙ are) (after_all p sent) ∙ stop_none s log p plain in
     (q, it.1, subst (λ u. due u (log_of cluster u) q ≡ []) it.0 none_due, subst (λ u. stop u (log_of cluster u) q ≡ None) it.0 none_stops)
 
-sent_all : Laws → (cluster : Cluster) (s : ShardName) → LogsAreDistinct cluster → AreBuilt (log_of cluster s).entries → (p : Position) (sent rest : List Entry) →
+sent_all : Laws → (cluster : Cluster) (s : ShardName) → LogsAreDistinct cluster → AreNoJournals (log_of cluster s).entries → (p : Position) (sent rest : List Entry) →
     after (log_of cluster s) p ≡ sent ++ rest → rest ≡ [] → IsSubset (log_of cluster s).base p → HasSentAll cluster s p (last_vector (vector_at s p) (entry_frames s p sent))
-sent_all laws cluster s distinct built p sent rest are none base = record {
+sent_all laws cluster s distinct plain p sent rest are none base = record {
   base = base;
-  settled = subst (λ v. IsSettled cluster v) (sym (last_sent s p sent)) (settled_at laws cluster s distinct built p sent rest are none);
+  settled = subst (λ v. IsSettled cluster v) (sym (last_sent s p sent)) (settled_at laws cluster s distinct plain p sent rest are none);
 }
 
+-- what is wrong with a log
+bad_log_caused : Laws → (stands : Gtid → ℕ → Type 0) (cluster : Cluster) (s : ShardName) (start : Start) → LogsAreDistinct cluster → AreNoJournals (log_of cluster s).entries →
+    (p : Position) (sent rest : List Entry) (offset : ℕ) (why : Why) → after (log_of cluster s) p ≡ sent ++ rest → HasFault stands (log_of cluster s) start p sent rest offset why →
+    HasBadLogCause stands cluster s start p (entry_frames s p sent) offset why
+bad_log_caused laws stands cluster s start distinct plain p sent rest offset why are (◌⊎◌.inl (own, none, base)) =
+    ◌⊎◌.inl (own, sent_all laws cluster s distinct plain p sent rest are none base)
+bad_log_caused laws stands cluster s start distinct plain p sent rest offset why are (◌⊎◌.inr (not, ◌⊎◌.inl (next, base))) = ◌⊎◌.inr (
+  not,
+  ◌⊎◌.inl (record {
+    base = base;
+    q = position_after p sent;
+    is = last_sent s p sent;
+    unbuilt = subst (λ es. IsNextUnbuilt stands es offset) (sym (due_behind laws cluster s distinct plain p sent rest are)) next;
+  }),
+)
+bad_log_caused laws stands cluster s start distinct plain p sent rest offset why are (◌⊎◌.inr (not, ◌⊎◌.inr (unbuilt, none))) =
+    ◌⊎◌.inr (not, ◌⊎◌.inr (unbuilt, ap (λ es. entry_frames s p es) none))
+
 -- what an answer says of a log, it says of the shard and its vector
-caused : Laws → (cluster : Cluster) (s : ShardName) → LogsAreDistinct cluster → AreBuilt (log_of cluster s).entries → (p : Position) (sent rest : List Entry) (status : Status) →
-    after (log_of cluster s) p ≡ sent ++ rest → HasLogCause s (log_of cluster s) p sent rest status → HasCause cluster s p (entry_frames s p sent) status
-caused laws cluster s distinct built p sent rest statuses.Done are cause = (sent_all laws cluster s distinct built p sent rest are cause.0 cause.1, cause.2)
-caused laws cluster s distinct built p sent rest (statuses.BadLog name offset why) are cause =
-    (cause.0, cause.1, sent_all laws cluster s distinct built p sent rest are cause.2 cause.3)
-caused laws cluster s distinct built p sent rest (statuses.Purged name missing) are cause = (cause.0, cause.1, ap (λ es. entry_frames s p es) cause.2)
-caused laws cluster s distinct built p sent rest (statuses.PositionTooLarge name) are cause = (
+caused : Laws → (stands : Gtid → ℕ → Type 0) (cluster : Cluster) (s : ShardName) (start : Start) → LogsAreDistinct cluster → AreNoJournals (log_of cluster s).entries →
+    (p : Position) (sent rest : List Entry) (status : Status) → after (log_of cluster s) p ≡ sent ++ rest → HasLogCause stands s (log_of cluster s) start p sent rest status →
+    HasCause stands cluster s start p (entry_frames s p sent) status
+caused laws stands cluster s start distinct plain p sent rest statuses.Done are cause = (sent_all laws cluster s distinct plain p sent rest are cause.0 cause.1, cause.2)
+caused laws stands cluster s start distinct plain p sent rest (statuses.BadLog name offset why) are cause =
+    (cause.0, bad_log_caused laws stands cluster s start distinct plain p sent rest offset why are cause.1)
+caused laws stands cluster s start distinct plain p sent rest (statuses.Purged name missing) are cause = (cause.0, cause.1, ap (λ es. entry_frames s p es) cause.2)
+caused laws stands cluster s start distinct plain p sent rest (statuses.PositionTooLarge name) are cause = (
   cause.0,
   record {
     base = cause.2;
     q = position_after p sent;
     is = last_sent s p sent;
-    large = subst (λ es. IsNextTooLarge (position_after p sent) es) (sym (due_behind laws cluster s distinct built p sent rest are)) cause.1;
+    large = subst (λ es. IsNextTooLarge (position_after p sent) es) (sym (due_behind laws cluster s distinct plain p sent rest are)) cause.1;
   },
 )
-caused laws cluster s distinct built p sent rest statuses.LinkFault are cause = cause
-caused laws cluster s distinct built p sent rest statuses.Memory are cause = tt
-caused laws cluster s distinct built p sent rest statuses.Usage are cause = absurd cause
-caused laws cluster s distinct built p sent rest (statuses.BadFrame number frame_why) are cause = absurd cause
-caused laws cluster s distinct built p sent rest (statuses.Request fault) are cause = absurd cause
-caused laws cluster s distinct built p sent rest (statuses.UnknownShard name) are cause = absurd cause
-caused laws cluster s distinct built p sent rest (statuses.FeedFault name) are cause = absurd cause
-caused laws cluster s distinct built p sent rest statuses.InputFault are cause = absurd cause
-caused laws cluster s distinct built p sent rest (statuses.OpenFault name) are cause = absurd cause
+caused laws stands cluster s start distinct plain p sent rest statuses.LinkFault are cause = cause
+caused laws stands cluster s start distinct plain p sent rest statuses.Memory are cause = tt
+caused laws stands cluster s start distinct plain p sent rest statuses.Usage are cause = absurd cause
+caused laws stands cluster s start distinct plain p sent rest (statuses.BadFrame number frame_why) are cause = absurd cause
+caused laws stands cluster s start distinct plain p sent rest (statuses.Request fault) are cause = absurd cause
+caused laws stands cluster s start distinct plain p sent rest (statuses.UnknownShard name) are cause = absurd cause
+caused laws stands cluster s start distinct plain p sent rest (statuses.FeedFault name) are cause = absurd cause
+caused laws stands cluster s start distinct plain p sent rest statuses.InputFault are cause = absurd cause
+caused laws stands cluster s start distinct plain p sent rest (statuses.OpenFault name) are cause = absurd cause
+caused laws stands cluster s start distinct plain p sent rest (statuses.BadSchema name line) are cause = absurd cause
 
 Answers-streamed : Laws → (cluster : ClusterBytes) (s : ShardName) (start : Start) (whole waited : Type 0) (shard : Shard) (status : Status) (written : List ℕ) (p : Position) →
-    ((waited → ⊥) → whole) → find_shard cluster s ≡ Some shard → IsStart (shard_log s shard.log) start whole p → IsCanonical p →
-    IsStreamed s (shard_log s shard.log) p status written → Answers cluster s start waited status written
+    ((waited → ⊥) → whole) → find_shard cluster s ≡ Some shard → IsStart (shard_log s shard.schema shard.log) start whole p → IsCanonical p →
+    IsStreamed (shard_places s shard.schema shard.log) s (shard_log s shard.schema shard.log) start p status written → Answers cluster s start waited status written
 Answers-streamed laws cluster s start whole waited shard status written p unwaited found starts canonical streamed =
-    let meant : log_of (cluster_meant cluster) s ≡ shard_log s shard.log = log_of-meant cluster s shard found in
+    let meant : log_of (cluster_meant cluster) s ≡ shard_log s shard.schema shard.log = log_of-meant cluster s shard found in
     let distinct : LogsAreDistinct (cluster_meant cluster) = distinct_meant laws.new_gtids cluster in
     let log : Log = log_of (cluster_meant cluster) s in
-    let built : AreBuilt log.entries = subst (λ (l : Log). AreBuilt l.entries) (sym meant) (laws.built s.keyspace shard.log) in
+    let plain : AreNoJournals log.entries = subst (λ (l : Log). AreNoJournals l.entries) (sym meant) (laws.no_journals s.keyspace (schema_in shard.schema) shard.log) in
+    let stands : Gtid → ℕ → Type 0 = shard_places s shard.schema shard.log in
     let here : IsStart log start whole p = subst (λ (l : Log). IsStart l start whole p) (sym meant) starts in
     let are : after log p ≡ streamed.sent ++ streamed.rest = ap (λ (l : Log). after l p) meant ∙ streamed.are in
-    let sent : AreBuilt streamed.sent = front_of streamed.sent streamed.rest (subst (λ es. AreBuilt es) are (after_built log p built)) in
+    let sent : AreBuilt streamed.sent = spelled_built s p streamed.sent streamed.bytes streamed.spelled in
     let base : (streamed.sent ≡ []) ⊎ IsSubset log.base p = subst (λ (l : Log). (streamed.sent ≡ []) ⊎ IsSubset l.base p) (sym meant) streamed.base in
     let frames : List Frame = entry_frames s p streamed.sent in
     record {
@@ -142,17 +166,18 @@ Answers-streamed laws cluster s start whole waited shard status written p unwait
       first = first_of (cluster_meant cluster) s start whole p here canonical;
       at_end = λ current never. starts_at_end log start whole p here current (unwaited never);
       legal = laws.steps (cluster_meant cluster) takes_all (vector_at s p) frames distinct (copies_sent s p streamed.sent)
-          (steps_sent laws.transactions laws.due (cluster_meant cluster) s distinct p streamed.sent streamed.rest sent (due_all s log p built ∙ are) base streamed.canonical);
+          (steps_sent laws.transactions laws.due (cluster_meant cluster) s distinct p streamed.sent streamed.rest sent (due_all s log p plain ∙ are) base streamed.canonical);
       bytes = streamed.bytes;
       spelled = streamed.spelled;
       prefix = streamed.prefix;
       whole = streamed.whole;
-      cause = caused laws (cluster_meant cluster) s distinct built p streamed.sent streamed.rest status are
-          (subst (λ (l : Log). HasLogCause s l p streamed.sent streamed.rest status) (sym meant) streamed.cause);
+      cause = subst (λ o. HasCause (places_in o s) (cluster_meant cluster) s start p frames status) (sym found)
+          (caused laws stands (cluster_meant cluster) s start distinct plain p streamed.sent streamed.rest status are
+          (subst (λ (l : Log). HasLogCause stands s l start p streamed.sent streamed.rest status) (sym meant) streamed.cause));
     }
 
 outcome_of : Laws → (cluster : ClusterBytes) (s : ShardName) (start : Start) (whole waited : Type 0) (shard : Shard) (status : Status) (written : List ℕ) →
-    ((waited → ⊥) → whole) → find_shard cluster s ≡ Some shard → IsStreamedFrom s (shard_log s shard.log) start whole status written → Outcome cluster s start waited status written
+    ((waited → ⊥) → whole) → find_shard cluster s ≡ Some shard → IsStreamedFrom (shard_places s shard.schema shard.log) s (shard_log s shard.schema shard.log) start whole status written → Outcome cluster s start waited status written
 outcome_of laws cluster s start whole waited shard status written unwaited found (◌⊎◌.inl none) = unread none.1 (subst (λ x. IsUnread cluster s x) (sym none.0) tt)
 outcome_of laws cluster s start whole waited shard status written unwaited found (◌⊎◌.inr from) =
     answers (Answers-streamed laws cluster s start whole waited shard status written from.0 unwaited found from.1 from.2 from.3)
@@ -161,15 +186,26 @@ never_marked : (mark : Option ℕ) (waited : Type 0) → (mark ≢ None → wait
 never_marked None waited marked never = refl
 never_marked (Some n) waited marked never = absurd (never (marked (λ h. cc)))
 
--- where the cluster is told, and the log is the shard's
-pub Writes-streamed : Laws → (told : Option ClusterBytes) (s : ShardName) (start : Start) (mark : Option ℕ) (waited : Type 0) (status : Status) (bytes : List ℕ) (before now : Option (List ℕ)) →
-    IfSome told (λ c. (shard : Shard) × (find_shard c s ≡ Some shard) × (bytes ≡ shard.log)) → (mark ≢ None → waited) →
-    Writes before now (IsStreamedFrom s (shard_log s bytes) start (mark ≡ None) status) → IfSome told (λ c. Writes before now (Outcome c s start waited status))
-Writes-streamed laws None s start mark waited status bytes before now fetched marked wrote = tt
-Writes-streamed laws (Some c) s start mark waited status bytes before now (shard, found, is) marked wrote =
-    Writes-weaken (IsStreamedFrom s (shard_log s bytes) start (mark ≡ None) status) (Outcome c s start waited status) before now
-    (λ w streamed. outcome_of laws c s start (mark ≡ None) waited shard status w (never_marked mark waited marked) found
-    (subst (λ b. IsStreamedFrom s (shard_log s b) start (mark ≡ None) status w) is streamed)) wrote
+-- where the cluster is told, and the log that was fetched is the shard's
+streamed_of : Laws → (cluster : ClusterBytes) (s : ShardName) (start : Start) (whole waited : Type 0) (status : Status) (text bytes : List ℕ) (w : List ℕ) → ((waited → ⊥) → whole) →
+    IsStreamedFrom (shard_places s text bytes) s (shard_log s text bytes) start whole status w → (shard : Option Shard) → find_shard cluster s ≡ shard → IsOfShard shard text bytes →
+    Outcome cluster s start waited status w
+streamed_of laws cluster s start whole waited status text bytes w unwaited streamed None found of = absurd of
+streamed_of laws cluster s start whole waited status text bytes w unwaited streamed (Some shard) found (same, all) =
+    outcome_of laws cluster s start whole waited shard status w unwaited found
+    (subst (λ b. IsStreamedFrom (shard_places s shard.schema b) s (shard_log s shard.schema b) start whole status w) all
+    (subst (λ t. IsStreamedFrom (shard_places s t bytes) s (shard_log s t bytes) start whole status w) same streamed))
+
+pub Writes-streamed : Laws → (told : Option ClusterBytes) (s : ShardName) (start : Start) (f : Fetched) (waited : Type 0) (status : Status) (text bytes : List ℕ) (before now : Option (List ℕ)) →
+    IsFetchedOf s text bytes f → IfSome told (λ c. IsOfShard (find_shard c s) text bytes) → (f.mark ≢ None → waited) →
+    Writes before now (IsStreamedFrom (IsPlaced f.entries) s (read_as f) start (f.mark ≡ None) status) → IfSome told (λ c. Writes before now (Outcome c s start waited status))
+Writes-streamed laws None s start f waited status text bytes before now fetched of marked wrote = tt
+Writes-streamed laws (Some c) s start f waited status text bytes before now fetched of marked wrote =
+    Writes-weaken (IsStreamedFrom (IsPlaced f.entries) s (read_as f) start (f.mark ≡ None) status) (Outcome c s start waited status) before now
+    (λ w streamed. streamed_of laws c s start (f.mark ≡ None) waited status text bytes w (never_marked f.mark waited marked)
+    (IsStreamedFrom-weaken (IsPlaced f.entries) (shard_places s text bytes) s (shard_log s text bytes) start (f.mark ≡ None) status w
+    (λ g at there. placed_so (shard_places s text bytes) f.entries g at fetched.places there)
+    (subst (λ l. IsStreamedFrom (IsPlaced f.entries) s l start (f.mark ≡ None) status w) fetched.log streamed)) (find_shard c s) refl of) wrote
 
 -- where nothing was written
 pub Writes-unread : (told : Option ClusterBytes) (s : ShardName) (start : Start) (waited : Type 0) (status : Status) (sent : Option (List ℕ)) →

@@ -1,5 +1,5 @@
 -- An input and a cluster ask for one answer.
-use Rattle.std.proofs.Common.{◌≡◌, ◌&&◌, ℕ, true, false, nat_eq, List, Option, Some, None, refl, sym, ap, subst, ◌∙◌, arith}
+use Rattle.std.proofs.Common.{◌≡◌, ◌&&◌, ℕ, true, false, nat_eq, List, Option, Some, None, Result, Ok, Err, refl, sym, ap, subst, ◌∙◌, arith}
 use Rattle.std.specs.Prelude.{◌⊎◌, IfSome}
 use Rattle.std.specs.Cmp.Lexicographic.{pointwise, slice_cmp}
 use Rattle.std.specs.Ordering.{nat_cmp, is_gt, ordering_then, ordering_reverse}
@@ -13,6 +13,12 @@ use Rattle.std.proofs.lemmas.Map.Lookups.{exact_bytes}
 use Rattle.vs_base.specs.declared.Gtid.{Gtid}
 use Rattle.vs_base.specs.declared.ShardName.{ShardName}
 use Rattle.vs_base.specs.declared.Why.{Why}
+use Rattle.vs_base.specs.declared.Why.TheVariants.{NotBuilt}
+use Rattle.vs_gtid.specs.declared.Entry.{Entry}
+use Rattle.vs_schema.specs.declared.schema.Schema.{Schema}
+use Rattle.vs_schema.specs.declared.refusal.SchemaRefusal.{SchemaRefusal}
+use Rattle.vs_schema.specs.declared.refusal.SchemaRefusal.TheVariants as refusal
+use Rattle.vs_schema.specs.Rules.{schema_of}
 use Rattle.vs_base.specs.Names.{same_gtid}
 use Rattle.vs_base.proofs.NameLemmas.{same_gtid-is}
 use Rattle.vs_gtid.specs.Logs.{Log}
@@ -25,12 +31,17 @@ use Rattle.vs_command.specs.declared.start.Start.{Start}
 use Rattle.vs_command.specs.declared.start.Start.TheVariants.{At, Current}
 use Rattle.vs_command.specs.declared.status.RequestFault.{RequestFault}
 use Rattle.vs_command.specs.declared.status.Status.{Status}
-use Rattle.vs_command.specs.declared.status.Status.TheVariants.{Done, Memory, Usage, Request, UnknownShard, Purged, BadLog, FeedFault, LinkFault, InputFault, OpenFault, PositionTooLarge, BadFrame}
-use Rattle.vs_command.specs.Causes.{AnswersLog, CanBeSent, HasRead, IsDue, IsOutside, LogAsksFor, ShardAsksFor}
+use Rattle.vs_command.specs.declared.status.Status.TheVariants.{Done, Memory, Usage, Request, UnknownShard, Purged, BadLog, FeedFault, LinkFault, InputFault, OpenFault, PositionTooLarge, BadSchema, BadFrame}
+use Rattle.vs_command.specs.declared.fetched.Fetched.{Fetched}
+use Rattle.vs_command.specs.Built.{built_front, first_unbuilt}
+use Rattle.vs_command.specs.Causes.{AnswersLog, AsksByItsLog, CanBeSent, EndsAt, EndsWith, HasRead, IsDue, IsOutside, LogAsksFor, ShardAsksFor, counted}
+use Rattle.vs_command.specs.Fetched.{IsFetchedOf, IsOfShard, IsPlaced, read_as}
 use Rattle.vs_command.specs.Laws.{Laws}
 use Rattle.vs_command.specs.Requests.{Asks, IsFaultOf, IsFrame, TakesOf}
 use Rattle.vs_command.specs.Sending.{IsTooLargeAlong}
-use Rattle.vs_command.specs.Streaming.{IsOfStream, shard_log}
+use Rattle.vs_command.specs.Streaming.{HasBadSchema, IsOfStream, shard_log, shard_places, shard_rules}
+use Rattle.vs_command.proofs.BuiltLemmas.{placed_so}
+use Rattle.vs_command.proofs.CauseLemmas.{LogAsksFor-weaken}
 use Rattle.vs_command.proofs.SaidLemmas.{asks_once, fault_once, not_asked}
 
 -- ---- the first GTID that is missing is one
@@ -65,52 +76,75 @@ end_status s None = Done
 end_status s (Some fault) = BadLog s fault.0 fault.1
 
 -- which of three it is
-data LogAnswer (s : ShardName) (log : Log) (start : Start) (status : Status) : Type 0 where
-  ends : CanBeSent log start → status ≡ end_status s log.fault → LogAnswer s log start status
-  purged : (p : Position) (missing : Gtid) → start ≡ At p → IsFirstMissing log.base p missing → status ≡ Purged s missing → LogAnswer s log start status
-  large : (p : Position) → start ≡ At p → IsSubset log.base p → IsTooLargeAlong p (after log p) → status ≡ PositionTooLarge s → LogAnswer s log start status
+data LogAnswer (stands : Gtid → ℕ → Type 0) (s : ShardName) (log : Log) (start : Start) (status : Status) : Type 0 where
+  ends : CanBeSent log start → (fault : Option (ℕ × Why)) → EndsWith stands log start fault → status ≡ end_status s fault → LogAnswer stands s log start status
+  purged : (p : Position) (missing : Gtid) → start ≡ At p → IsFirstMissing log.base p missing → status ≡ Purged s missing → LogAnswer stands s log start status
+  large : (p : Position) → start ≡ At p → IsSubset log.base p → IsTooLargeAlong p (built_front (after log p)) → status ≡ PositionTooLarge s → LogAnswer stands s log start status
 
-log_answer : (s : ShardName) (log : Log) (start : Start) (status : Status) → LogAsksFor s log start status → LogAnswer s log start status
-log_answer s log start Done asks = ends asks.0 (sym (ap (λ f. end_status s f) asks.1))
-log_answer s log start (BadLog name offset why) asks = ends asks.1 (ap (λ n. BadLog n offset why) asks.0 ∙ sym (ap (λ f. end_status s f) asks.2))
-log_answer s log (At p) (Purged name missing) asks = purged p missing refl asks.1 (ap (λ n. Purged n missing) asks.0)
-log_answer s log Current (Purged name missing) asks = absurd asks
-log_answer s log (At p) (PositionTooLarge name) asks = large p refl asks.1 asks.2 (ap (λ n. PositionTooLarge n) asks.0)
-log_answer s log Current (PositionTooLarge name) asks = absurd asks
-log_answer s log start Memory asks = absurd asks
-log_answer s log start Usage asks = absurd asks
-log_answer s log start (BadFrame number frame_why) asks = absurd asks
-log_answer s log start (Request fault) asks = absurd asks
-log_answer s log start (UnknownShard name) asks = absurd asks
-log_answer s log start (FeedFault name) asks = absurd asks
-log_answer s log start LinkFault asks = absurd asks
-log_answer s log start InputFault asks = absurd asks
-log_answer s log start (OpenFault name) asks = absurd asks
+log_answer : (stands : Gtid → ℕ → Type 0) (s : ShardName) (log : Log) (start : Start) (status : Status) → LogAsksFor stands s log start status → LogAnswer stands s log start status
+log_answer stands s log start Done asks = ends asks.0 None asks.1 refl
+log_answer stands s log start (BadLog name offset why) asks = ends asks.1 (Some (offset, why)) asks.2 (ap (λ n. BadLog n offset why) asks.0)
+log_answer stands s log (At p) (Purged name missing) asks = purged p missing refl asks.1 (ap (λ n. Purged n missing) asks.0)
+log_answer stands s log Current (Purged name missing) asks = absurd asks
+log_answer stands s log (At p) (PositionTooLarge name) asks = large p refl asks.1 asks.2 (ap (λ n. PositionTooLarge n) asks.0)
+log_answer stands s log Current (PositionTooLarge name) asks = absurd asks
+log_answer stands s log start Memory asks = absurd asks
+log_answer stands s log start Usage asks = absurd asks
+log_answer stands s log start (BadFrame number frame_why) asks = absurd asks
+log_answer stands s log start (Request fault) asks = absurd asks
+log_answer stands s log start (UnknownShard name) asks = absurd asks
+log_answer stands s log start (FeedFault name) asks = absurd asks
+log_answer stands s log start LinkFault asks = absurd asks
+log_answer stands s log start InputFault asks = absurd asks
+log_answer stands s log start (OpenFault name) asks = absurd asks
+log_answer stands s log start (BadSchema name line) asks = absurd asks
 
 none_purged : (log : Log) (start : Start) (p : Position) (missing : Gtid) → CanBeSent log start → start ≡ At p → IsFirstMissing log.base p missing → ⊥
 none_purged log start p missing can at first = not_subset log.base p missing first (subst (λ s. CanBeSent log s) at can).base
 
-none_large : (log : Log) (start : Start) (p : Position) → CanBeSent log start → start ≡ At p → IsTooLargeAlong p (after log p) → ⊥
+none_large : (log : Log) (start : Start) (p : Position) → CanBeSent log start → start ≡ At p → IsTooLargeAlong p (built_front (after log p)) → ⊥
 none_large log start p can at over = (subst (λ s. CanBeSent log s) at can).room over
 
 same_at : (start : Start) (p q : Position) → start ≡ At p → start ≡ At q → p ≡ q
 same_at start p q a b = let same : ◌≡◌ {A = Start} (At p) (At q) = sym a ∙ b in cc
 
-one_answer : (s : ShardName) (log : Log) (start : Start) (a b : Status) → LogAnswer s log start a → LogAnswer s log start b → a ≡ b
-one_answer s log start a b (ends can is) (ends more too) = is ∙ sym too
-one_answer s log start a b (ends can is) (purged p missing at first too) = absurd (none_purged log start p missing can at first)
-one_answer s log start a b (ends can is) (large p at base over too) = absurd (none_large log start p can at over)
-one_answer s log start a b (purged p missing at first is) (ends can too) = absurd (none_purged log start p missing can at first)
-one_answer s log start a b (purged p missing at first is) (purged q lost here least too) =
-    is ∙ ap (λ g. Purged s g) (one_missing log.base q missing lost (subst (λ x. IsFirstMissing log.base x missing) (same_at start p q at here) first) least) ∙ sym too
-one_answer s log start a b (purged p missing at first is) (large q here base over too) = absurd (not_subset log.base p missing first (subst (λ x. IsSubset log.base x) (same_at start q p here at) base))
-one_answer s log start a b (large p at base over is) (ends can too) = absurd (none_large log start p can at over)
-one_answer s log start a b (large p at base over is) (purged q missing here first too) = absurd (not_subset log.base q missing first (subst (λ x. IsSubset log.base x) (same_at start p q at here) base))
-one_answer s log start a b (large p at base over is) (large q here more far too) = is ∙ sym too
+-- where a GTID event stands at one place, one fault ends a stream
+abbrev StandsOnce : (Gtid → ℕ → Type 0) → Type 0
+StandsOnce stands = (g : Gtid) (at other : ℕ) → stands g at → stands g other → at ≡ other
 
-one_of_shard : (shard : Option Shard) (s : ShardName) (start : Start) (a b : Status) → ShardAsksFor shard s start a → ShardAsksFor shard s start b → a ≡ b
-one_of_shard None s start a b p q = p ∙ sym q
-one_of_shard (Some shard) s start a b p q = one_answer s (shard_log s shard.log) start a b (log_answer s (shard_log s shard.log) start a p) (log_answer s (shard_log s shard.log) start b q)
+one_end : (stands : Gtid → ℕ → Type 0) → StandsOnce stands → (own : Option (ℕ × Why)) (first : Option Entry) (a b : Option (ℕ × Why)) → EndsAt stands own first a → EndsAt stands own first b → a ≡ b
+one_end stands once own None a b is too = is ∙ sym too
+one_end stands once own (Some e) a b (m, here, is) (n, there, too) = is ∙ ap (λ k. Some (k, NotBuilt)) (once e.gtid m n here there) ∙ sym too
+
+one_answer : (stands : Gtid → ℕ → Type 0) → StandsOnce stands → (s : ShardName) (log : Log) (start : Start) (a b : Status) → LogAnswer stands s log start a → LogAnswer stands s log start b → a ≡ b
+one_answer stands once s log start a b (ends can f end is) (ends more g last too) =
+    is ∙ ap (λ x. end_status s x) (one_end stands once log.fault (first_unbuilt (counted log start)) f g end last) ∙ sym too
+one_answer stands once s log start a b (ends can f end is) (purged p missing at first too) = absurd (none_purged log start p missing can at first)
+one_answer stands once s log start a b (ends can f end is) (large p at base over too) = absurd (none_large log start p can at over)
+one_answer stands once s log start a b (purged p missing at first is) (ends can f end too) = absurd (none_purged log start p missing can at first)
+one_answer stands once s log start a b (purged p missing at first is) (purged q lost here least too) =
+    is ∙ ap (λ g. Purged s g) (one_missing log.base q missing lost (subst (λ x. IsFirstMissing log.base x missing) (same_at start p q at here) first) least) ∙ sym too
+one_answer stands once s log start a b (purged p missing at first is) (large q here base over too) = absurd (not_subset log.base p missing first (subst (λ x. IsSubset log.base x) (same_at start q p here at) base))
+one_answer stands once s log start a b (large p at base over is) (ends can f end too) = absurd (none_large log start p can at over)
+one_answer stands once s log start a b (large p at base over is) (purged q missing here first too) = absurd (not_subset log.base q missing first (subst (λ x. IsSubset log.base x) (same_at start p q at here) base))
+one_answer stands once s log start a b (large p at base over is) (large q here more far too) = is ∙ sym too
+
+-- a schema text that reads isn't refused
+read_or_refused : (text : List ℕ) (schema : Schema) (line : ℕ) → schema_of text ≡ Ok schema → schema_of text ≡ Err (refusal.BadSchema line) → ⊥
+read_or_refused text schema line reads refused = let clash : ◌≡◌ {A = Result Schema SchemaRefusal} (Ok schema) (Err (refusal.BadSchema line)) = sym reads ∙ refused in cc
+
+one_of_shard : Laws → (shard : Option Shard) (s : ShardName) (start : Start) (a b : Status) → ShardAsksFor shard s start a → ShardAsksFor shard s start b → a ≡ b
+one_of_shard laws None s start a b p q = p ∙ sym q
+one_of_shard laws (Some shard) s start a b (◌⊎◌.inl (line, refused, is)) (◌⊎◌.inl (other, again, too)) =
+    let both : ◌≡◌ {A = Result Schema SchemaRefusal} (Err (refusal.BadSchema line)) (Err (refusal.BadSchema other)) = sym refused ∙ again in
+    let same : line ≡ other = cc in
+    is ∙ ap (λ n. BadSchema s n) same ∙ sym too
+one_of_shard laws (Some shard) s start a b (◌⊎◌.inl (line, refused, is)) (◌⊎◌.inr (schema, reads, asks)) = absurd (read_or_refused shard.schema schema line reads refused)
+one_of_shard laws (Some shard) s start a b (◌⊎◌.inr (schema, reads, asks)) (◌⊎◌.inl (line, refused, is)) = absurd (read_or_refused shard.schema schema line reads refused)
+one_of_shard laws (Some shard) s start a b (◌⊎◌.inr (schema, reads, p)) (◌⊎◌.inr (other, again, q)) =
+    let log : Log = shard_log s shard.schema shard.log in
+    one_answer (shard_places s shard.schema shard.log) (laws.places (shard_rules s shard.schema) shard.log) s log start a b
+    (log_answer (shard_places s shard.schema shard.log) s log start a p) (log_answer (shard_places s shard.schema shard.log) s log start b q)
 
 -- ---- an input asks for one answer
 
@@ -120,11 +154,13 @@ data DueAnswer (cluster : ClusterBytes) (input : List ℕ) (status : Status) : T
   asked : (name : ShardName) (start : Start) → Asks input name start → ShardAsksFor (find_shard cluster name) name start status → DueAnswer cluster input status
 
 of_log : (cluster : ClusterBytes) (input : List ℕ) (status : Status) → AnswersLog cluster input status → DueAnswer cluster input status
-of_log cluster input status answers = asked answers.0 answers.1 answers.3 (subst (λ o. ShardAsksFor o answers.0 answers.1 status) (sym answers.4) answers.5)
+of_log cluster input status (name, start, shard, asks, found, by) = asked name start asks (subst (λ o. ShardAsksFor o name start status) (sym found) (◌⊎◌.inr by))
 
 due_answer : (cluster : ClusterBytes) (input : List ℕ) (status : Status) → IsDue cluster input status → DueAnswer cluster input status
 due_answer cluster input (Request fault) due = refused fault due refl
 due_answer cluster input (UnknownShard name) due = asked name due.0 due.1 (subst (λ o. ShardAsksFor o name due.0 (UnknownShard name)) (sym due.2) refl)
+due_answer cluster input (BadSchema name line) (start, shard, asks, found, bad) =
+    asked name start asks (subst (λ o. ShardAsksFor o name start (BadSchema name line)) (sym found) (◌⊎◌.inl (line, bad, refl)))
 due_answer cluster input Done due = of_log cluster input Done due
 due_answer cluster input Memory due = of_log cluster input Memory due
 due_answer cluster input Usage due = of_log cluster input Usage due
@@ -143,7 +179,7 @@ one_due laws cluster input a b (refused f p is) (asked n s asks for) = absurd (n
 one_due laws cluster input a b (asked n s asks for) (refused f p is) = absurd (not_asked laws input n s f asks p)
 one_due laws cluster input a b (asked n s asks for) (asked m t too more) =
     let same = asks_once laws input n m s t asks too in
-    one_of_shard (find_shard cluster m) m t a b (subst (λ x. ShardAsksFor (find_shard cluster m) m x a) same.1 (subst (λ x. ShardAsksFor (find_shard cluster x) x s a) same.0 for)) more
+    one_of_shard laws (find_shard cluster m) m t a b (subst (λ x. ShardAsksFor (find_shard cluster m) m x a) same.1 (subst (λ x. ShardAsksFor (find_shard cluster x) x s a) same.0 for)) more
 
 due_once : Laws → (cluster : ClusterBytes) (input : List ℕ) (a b : Status) → IsDue cluster input a → IsDue cluster input b → a ≡ b
 due_once laws cluster input a b p q = one_due laws cluster input a b (due_answer cluster input a p) (due_answer cluster input b q)
@@ -172,32 +208,44 @@ comes_told laws None left status other due = tt
 comes_told laws (Some c) None status other due = tt
 comes_told laws (Some c) (Some input) status other due = comes laws c input status other due
 
+-- a shard whose schema text reads was asked for, and what its log asks for
+asked_log : (cluster : ClusterBytes) (input : List ℕ) (name : ShardName) (start : Start) (shard : Shard) (status : Status) → Asks input name start → find_shard cluster name ≡ Some shard →
+    AsksByItsLog shard name start status → IsDue cluster input status
+asked_log cluster input name start shard Done asks found by = (name, start, shard, asks, found, by)
+asked_log cluster input name start shard (BadLog n offset why) asks found by = (name, start, shard, asks, found, by)
+asked_log cluster input name start shard (Purged n missing) asks found by = (name, start, shard, asks, found, by)
+asked_log cluster input name start shard (PositionTooLarge n) asks found by = (name, start, shard, asks, found, by)
+asked_log cluster input name start shard Memory asks found by = (name, start, shard, asks, found, by)
+asked_log cluster input name start shard Usage asks found by = (name, start, shard, asks, found, by)
+asked_log cluster input name start shard (BadFrame number frame_why) asks found by = (name, start, shard, asks, found, by)
+asked_log cluster input name start shard (FeedFault n) asks found by = (name, start, shard, asks, found, by)
+asked_log cluster input name start shard LinkFault asks found by = (name, start, shard, asks, found, by)
+asked_log cluster input name start shard InputFault asks found by = (name, start, shard, asks, found, by)
+asked_log cluster input name start shard (OpenFault n) asks found by = (name, start, shard, asks, found, by)
+asked_log cluster input name start shard (Request fault) asks found (schema, reads, for) = absurd (none start for)
+  where
+    none : (start : Start) → LogAsksFor (shard_places name shard.schema shard.log) name (shard_log name shard.schema shard.log) start (Request fault) → ⊥
+    none (At p) asks = asks
+    none Current asks = asks
+asked_log cluster input name start shard (UnknownShard n) asks found (schema, reads, for) = absurd (none start for)
+  where
+    none : (start : Start) → LogAsksFor (shard_places name shard.schema shard.log) name (shard_log name shard.schema shard.log) start (UnknownShard n) → ⊥
+    none (At p) asks = asks
+    none Current asks = asks
+asked_log cluster input name start shard (BadSchema n line) asks found (schema, reads, for) = absurd (none start for)
+  where
+    none : (start : Start) → LogAsksFor (shard_places name shard.schema shard.log) name (shard_log name shard.schema shard.log) start (BadSchema n line) → ⊥
+    none (At p) asks = asks
+    none Current asks = asks
+
 -- a shard that was asked for, and what it asks for
 asked_due : (cluster : ClusterBytes) (input : List ℕ) (name : ShardName) (start : Start) (shard : Option Shard) (status : Status) → Asks input name start → find_shard cluster name ≡ shard →
     ShardAsksFor shard name start status → IsDue cluster input status
 asked_due cluster input name start None status asks found for =
     subst (λ s. IsDue cluster input s) (sym for) (start, asks, found)
-asked_due cluster input name start (Some shard) Done asks found for = (name, start, shard, asks, found, for)
-asked_due cluster input name start (Some shard) (BadLog n offset why) asks found for = (name, start, shard, asks, found, for)
-asked_due cluster input name start (Some shard) (Purged n missing) asks found for = (name, start, shard, asks, found, for)
-asked_due cluster input name start (Some shard) (PositionTooLarge n) asks found for = (name, start, shard, asks, found, for)
-asked_due cluster input name start (Some shard) Memory asks found for = (name, start, shard, asks, found, for)
-asked_due cluster input name start (Some shard) Usage asks found for = (name, start, shard, asks, found, for)
-asked_due cluster input name start (Some shard) (BadFrame number frame_why) asks found for = (name, start, shard, asks, found, for)
-asked_due cluster input name start (Some shard) (FeedFault n) asks found for = (name, start, shard, asks, found, for)
-asked_due cluster input name start (Some shard) LinkFault asks found for = (name, start, shard, asks, found, for)
-asked_due cluster input name start (Some shard) InputFault asks found for = (name, start, shard, asks, found, for)
-asked_due cluster input name start (Some shard) (OpenFault n) asks found for = (name, start, shard, asks, found, for)
-asked_due cluster input name start (Some shard) (Request fault) asks found for = absurd (none (shard_log name shard.log) start for)
-  where
-    none : (log : Log) (start : Start) → LogAsksFor name log start (Request fault) → ⊥
-    none log (At p) asks = asks
-    none log Current asks = asks
-asked_due cluster input name start (Some shard) (UnknownShard n) asks found for = absurd (none (shard_log name shard.log) start for)
-  where
-    none : (log : Log) (start : Start) → LogAsksFor name log start (UnknownShard n) → ⊥
-    none log (At p) asks = asks
-    none log Current asks = asks
+asked_due cluster input name start (Some shard) status asks found (◌⊎◌.inl (line, bad, is)) =
+    subst (λ s. IsDue cluster input s) (sym is) (start, shard, asks, found, bad)
+asked_due cluster input name start (Some shard) status asks found (◌⊎◌.inr by) = asked_log cluster input name start shard status asks found by
 
 pub asked_told : (told told_then : Option ClusterBytes) (left : Option (List ℕ)) (name : ShardName) (start : Start) (status : Status) → told_then ≡ told → IfSome left (λ input. Asks input name start) →
     IfSome told_then (λ c. IsOutside status ⊎ ShardAsksFor (find_shard c name) name start status) → IfSome told (λ c. IfSome left (λ input. IsOutside status ⊎ IsDue c input status))
@@ -238,12 +286,37 @@ outside_told (Some c) (Some input) status outside = ◌⊎◌.inl outside
 
 -- ---- the shard's log that was read
 
-pub due_streamed : (told : Option ClusterBytes) (s : ShardName) (start : Start) (status : Status) (bytes : List ℕ) → IfSome told (λ c. (shard : Shard) × (find_shard c s ≡ Some shard) × (bytes ≡ shard.log)) →
-    IsOutside status ⊎ LogAsksFor s (shard_log s bytes) start status → IfSome told (λ c. IsOutside status ⊎ ShardAsksFor (find_shard c s) s start status)
-due_streamed None s start status bytes fetched due = tt
-due_streamed (Some c) s start status bytes fetched (◌⊎◌.inl outside) = ◌⊎◌.inl outside
-due_streamed (Some c) s start status bytes (shard, found, is) (◌⊎◌.inr asks) =
-    ◌⊎◌.inr (subst (λ o. ShardAsksFor o s start status) (sym found) (subst (λ b. LogAsksFor s (shard_log s b) start status) is asks))
+-- what is asked for by the log that was fetched, the shard's log asks for
+asks_fetched : (s : ShardName) (start : Start) (status : Status) (text bytes : List ℕ) (f : Fetched) → IsFetchedOf s text bytes f → LogAsksFor (IsPlaced f.entries) s (read_as f) start status →
+    (shard : Option Shard) → IsOfShard shard text bytes → ShardAsksFor shard s start status
+asks_fetched s start status text bytes f fetched asks None of = absurd of
+asks_fetched s start status text bytes f fetched asks (Some shard) (same, all) =
+    let here : LogAsksFor (shard_places s text bytes) s (shard_log s text bytes) start status =
+    LogAsksFor-weaken (IsPlaced f.entries) (shard_places s text bytes) s (shard_log s text bytes) start status
+    (λ g at there. placed_so (shard_places s text bytes) f.entries g at fetched.places there)
+    (subst (λ l. LogAsksFor (IsPlaced f.entries) s l start status) fetched.log asks) in
+    ◌⊎◌.inr (
+      fetched.schema,
+      subst (λ t. schema_of t ≡ Ok fetched.schema) same fetched.reads,
+      subst (λ b. LogAsksFor (shard_places s shard.schema b) s (shard_log s shard.schema b) start status) all
+          (subst (λ t. LogAsksFor (shard_places s t bytes) s (shard_log s t bytes) start status) same here),
+    )
+
+pub due_streamed : (told : Option ClusterBytes) (s : ShardName) (start : Start) (status : Status) (text bytes : List ℕ) (f : Fetched) → IsFetchedOf s text bytes f →
+    IfSome told (λ c. IsOfShard (find_shard c s) text bytes) → IsOutside status ⊎ LogAsksFor (IsPlaced f.entries) s (read_as f) start status →
+    IfSome told (λ c. IsOutside status ⊎ ShardAsksFor (find_shard c s) s start status)
+due_streamed None s start status text bytes f fetched of due = tt
+due_streamed (Some c) s start status text bytes f fetched of (◌⊎◌.inl outside) = ◌⊎◌.inl outside
+due_streamed (Some c) s start status text bytes f fetched of (◌⊎◌.inr asks) = ◌⊎◌.inr (asks_fetched s start status text bytes f fetched asks (find_shard c s) of)
+
+pub due_bad_schema : (told : Option ClusterBytes) (s : ShardName) (start : Start) (line : ℕ) → IfSome told (λ c. HasBadSchema (find_shard c s) line) →
+    IfSome told (λ c. IsOutside (BadSchema s line) ⊎ ShardAsksFor (find_shard c s) s start (BadSchema s line))
+due_bad_schema None s start line bad = tt
+due_bad_schema (Some c) s start line bad = ◌⊎◌.inr (go (find_shard c s) bad)
+  where
+    go : (shard : Option Shard) → HasBadSchema shard line → ShardAsksFor shard s start (BadSchema s line)
+    go None h = absurd h
+    go (Some shard) h = ◌⊎◌.inl (line, h, refl)
 
 pub due_unknown : (told : Option ClusterBytes) (s : ShardName) (start : Start) → IfSome told (λ c. find_shard c s ≡ None) →
     IfSome told (λ c. IsOutside (UnknownShard s) ⊎ ShardAsksFor (find_shard c s) s start (UnknownShard s))
@@ -265,6 +338,7 @@ has_read before now (FeedFault name) kind took = took
 has_read before now LinkFault kind took = took
 has_read before now (OpenFault name) kind took = took
 has_read before now (PositionTooLarge name) kind took = took
+has_read before now (BadSchema name line) kind took = took
 
 -- what is said of any cluster and any input
 pub told_any : (told : Option ClusterBytes) (left : Option (List ℕ)) (P : ClusterBytes → List ℕ → Type 0) → ((c : ClusterBytes) (input : List ℕ) → P c input) → IfSome told (λ c. IfSome left (λ input. P c input))

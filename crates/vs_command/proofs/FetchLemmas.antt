@@ -1,14 +1,171 @@
--- What was read of a feed is the log of the shard, where the cluster is told.
-use Rattle.std.proofs.Common.{◌≡◌, ℕ, List, [], Option, Some, None, refl, subst}
-use Rattle.std.specs.Prelude.{IfSome}
-use Rattle.std.specs.Option.{ForSome}
+-- The entries that a reader gave stay those of the log as more bytes come, and what was fetched is the log of the shard.
+use Rattle.std.proofs.Common.{◌≡◌, ◌≤◌, ◌+◌, ◌-◌, ◌<◌, ℕ, suc, List, [], ◌∷◌, ◌++◌, length, take, Option, Some, None, Ok, Err, refl, sym, ap, subst, ◌∙◌, append_assoc, arith}
+use Rattle.std.specs.Prelude.{◌⊎◌, IfSome, IsSomeAnd, MatchOption}
+use Rattle.std.specs.Option.{ForSome, option_map}
+use Rattle.std.proofs.lemmas.List.{length-append, map-append, take_all}
+use Rattle.std.proofs.Math.Seq.{take-append_seam, take-append-add}
+use Rattle.vs_base.specs.declared.Gtid.{Gtid}
 use Rattle.vs_base.specs.declared.ShardName.{ShardName}
+use Rattle.vs_gtid.specs.declared.Entry.{Entry}
+use Rattle.vs_outside.specs.declared.feed.Got.{Got}
+use Rattle.vs_outside.specs.declared.feed.Got.TheVariants.{Bytes}
+use Rattle.vs_outside.specs.Counts.{Rose, raised}
+use Rattle.vs_outside.specs.Reads.{GivesNext}
 use Rattle.vs_outside.specs.Clusters.{Shard, ClusterBytes, find_shard}
+use Rattle.vs_schema.specs.declared.schema.Schema.{Schema}
+use Rattle.vs_schema.specs.declared.refusal.SchemaRefusal.TheVariants as refusal
+use Rattle.vs_schema.specs.Rules.{schema_of}
+use Rattle.vs_log.specs.Events.{joined, magic}
+use Rattle.vs_log.specs.Laws.{Grows}
+use Rattle.vs_log.specs.Meaning.{log_meant}
+use Rattle.vs_log.specs.Productions.{StandsAt}
+use Rattle.vs_log.specs.Table.{Rules}
+use Rattle.vs_entries.specs.Rules.{rules_of}
+use Rattle.vs_entries.specs.Pieces.{Fed, Gives, fresh, log_fed, rules_fed, with_piece}
+use Rattle.vs_entries.specs.declared.took.Took.TheVariants as took
+use Rattle.vs_command.specs.declared.fetched.Fetched.{Fetched}
+use Rattle.vs_command.specs.declared.fetched.LogFault.{LogFault}
+use Rattle.vs_command.specs.declared.fetched.Placed.{Placed}
+use Rattle.vs_command.specs.Fetched.{ArePlaced, HasGiven, HasGivenAll, IsFetchedOf, IsOfShard, IsSameLog, fault_of, read_as}
+use Rattle.vs_command.specs.Streaming.{or_none, schema_in}
 
-pub fetched : (told : Option ClusterBytes) (name : ShardName) (all given : Option (List ℕ)) (schema items : List ℕ) →
-    ForSome told (λ c. (s : Shard) × (find_shard c name ≡ Some s) × (all ≡ Some s.log) × (given ≡ Some []) × (schema ≡ s.schema)) →
-    IfSome all (λ bytes. items ≡ bytes) → IfSome told (λ c. (s : Shard) × (find_shard c name ≡ Some s) × (items ≡ s.log))
-fetched None name all given schema items opened whole = tt
-fetched (Some c) name all given schema items opened whole =
+-- ---- more bytes
+
+-- what stands at a place stands there with more bytes
+StandsAt-more : (rules : Rules) (bytes more : List ℕ) (g : Gtid) (at : ℕ) → StandsAt rules bytes g at → StandsAt rules (bytes ++ more) g at
+StandsAt-more rules bytes more g at h = record {
+  before = h.before;
+  event = h.event;
+  rest = h.rest ++ more;
+  cut = record {
+    are = ap (λ b. b ++ more) h.cut.are ∙ append_assoc magic (joined (h.before ++ h.event ∷ []) ++ h.rest) more ∙ ap (λ l. magic ++ l) (append_assoc (joined (h.before ++ h.event ∷ [])) h.rest more);
+    whole = h.cut.whole;
+    short = h.cut.short;
+  };
+  place = h.place;
+  state = h.state;
+  begins = h.begins;
+  names = h.names;
+}
+
+ArePlaced-weaken : (P Q : Gtid → ℕ → Type 0) (placed : List Placed) → ((g : Gtid) (at : ℕ) → P g at → Q g at) → ArePlaced P placed → ArePlaced Q placed
+ArePlaced-weaken P Q [] f h = tt
+ArePlaced-weaken P Q (t ∷ placed) f h = (f t.entry.gtid t.at h.0, ArePlaced-weaken P Q placed f h.1)
+
+ArePlaced-more : (P : Gtid → ℕ → Type 0) (placed : List Placed) (t : Placed) → ArePlaced P placed → P t.entry.gtid t.at → ArePlaced P (placed ++ t ∷ [])
+ArePlaced-more P [] t h p = (p, tt)
+ArePlaced-more P (x ∷ placed) t h p = (h.0, ArePlaced-more P placed t h.1 p)
+
+-- nothing was given of a reader that was fed nothing
+pub HasGiven-fresh : (keyspace : List ℕ) (schema : Schema) → HasGiven (fresh keyspace schema) []
+HasGiven-fresh keyspace schema = record { count = refl; within = omega arith; entries = refl; places = tt }
+
+-- what was given stays, whatever bytes come
+pub HasGiven-fed : ((rules : Rules) (bytes more : List ℕ) → Grows rules bytes more) → (r : Fed) (piece : List ℕ) (placed : List Placed) → HasGiven r placed → HasGiven (with_piece r piece) placed
+HasGiven-fed law r piece placed h =
+    let grows : Grows (rules_fed r) r.bytes piece = law (rules_fed r) r.bytes piece in
+    record {
+      count = h.count;
+      within = omega (arith, h.within, ap (λ es. length es) grows.entries.1, length-append (log_fed r).entries grows.entries.0);
+      entries = h.entries ∙ sym (grows.given r.given h.within);
+      places = ArePlaced-weaken (StandsAt (rules_fed r) r.bytes) (StandsAt (rules_fed r) (r.bytes ++ piece)) placed (λ g at s. StandsAt-more (rules_fed r) r.bytes piece g at s) h.places;
+    }
+
+-- each entry that is given leaves fewer
+pub fewer_left : (r new : Fed) (e : Entry) (at : ℕ) → Gives r (Ok (took.Entry e at)) new → length (log_fed new).entries - new.given < length (log_fed r).entries - r.given
+fewer_left r new e at (unspent, behind, stands, is) =
+    subst (λ (x : Fed). length (log_fed x).entries - x.given < length (log_fed r).entries - r.given) (sym is)
+    (omega (arith, behind.count, ap (λ es. length es) behind.are, length-append behind.before (e ∷ behind.later)))
+
+-- ---- one entry more
+
+pub HasGiven-more : (r new : Fed) (placed : List Placed) (e : Entry) (at : ℕ) → HasGiven r placed → Gives r (Ok (took.Entry e at)) new → HasGiven new (placed ++ record { entry = e; at = at } ∷ [])
+HasGiven-more r new placed e at h (unspent, behind, stands, is) = subst (λ x. HasGiven x (placed ++ t ∷ [])) (sym is) (record {
+  count = length-append placed (t ∷ []) ∙ ap (λ n. n + 1) h.count ∙ one_more;
+  within = omega (arith, behind.count, ap (λ es. length es) behind.are, length-append behind.before (e ∷ behind.later));
+  entries = map-append (λ x. x.entry) placed (t ∷ []) ∙ ap (λ es. es ++ e ∷ []) (h.entries ∙ front) ∙ sym next;
+  places = ArePlaced-more (StandsAt (rules_fed r) r.bytes) placed t h.places stands;
+})
+  where
+    t : Placed
+    t = record { entry = e; at = at }
+
+    one_more : r.given + 1 ≡ suc r.given
+    one_more = omega arith
+
+    front : take r.given (log_fed r).entries ≡ behind.before
+    front = ap (λ n. take n (log_fed r).entries) (sym behind.count) ∙ ap (λ es. take (length behind.before) es) behind.are ∙ take-append_seam behind.before (e ∷ behind.later)
+
+    next : take (suc r.given) (log_fed r).entries ≡ behind.before ++ e ∷ []
+    next =
+        ap (λ n. take n (log_fed r).entries) (let n : suc r.given ≡ length behind.before + 1 = omega (arith, behind.count) in n)
+        ∙ ap (λ es. take (length behind.before + 1) es) behind.are ∙ take-append-add behind.before (e ∷ behind.later) 1
+
+pub IsSameLog-more : (a r new : Fed) (e : Entry) (at : ℕ) → IsSameLog a r → Gives r (Ok (took.Entry e at)) new → IsSameLog a new
+IsSameLog-more a r new e at same (unspent, behind, stands, is) = subst (λ x. IsSameLog a x) (sym is) (record { keyspace = same.keyspace; schema = same.schema; bytes = same.bytes })
+
+-- the last one was given
+pub HasGiven-all : (r : Fed) (placed : List Placed) (fault : Option LogFault) → HasGiven r placed → r.given ≡ length (log_fed r).entries → option_map fault_of fault ≡ (log_fed r).fault →
+    HasGivenAll r placed fault
+HasGiven-all r placed fault h all told = record {
+  entries = h.entries ∙ take_all r.given (log_fed r).entries (omega (arith, all));
+  places = h.places;
+  told = told;
+}
+
+-- ---- what was fetched
+
+schema_read : (text : List ℕ) (schema : Schema) → schema_of text ≡ Ok schema → schema_in text ≡ schema
+unfolding schema_in
+schema_read text schema h = ap or_none h
+
+-- a schema that was read is the one that the text says
+pub schema_said : (text bytes : List ℕ) (schema : Schema) → bytes ≡ text → (Ok schema ≡ Err refusal.Memory) ⊎ (Ok schema ≡ schema_of bytes) → schema_of text ≡ Ok schema
+schema_said text bytes schema same (◌⊎◌.inl spent) = absurd (cc)
+schema_said text bytes schema same (◌⊎◌.inr is) = sym (is ∙ ap schema_of same)
+
+-- where the cluster is told, it has the shard
+of_shard : (told : Option ClusterBytes) (name : ShardName) (all given : Option (List ℕ)) (text bytes : List ℕ) →
+    ForSome told (λ c. (s : Shard) × (find_shard c name ≡ Some s) × (all ≡ Some s.log) × (given ≡ Some []) × (text ≡ s.schema)) →
+    IfSome all (λ a. bytes ≡ a) → IfSome told (λ c. IsOfShard (find_shard c name) text bytes)
+of_shard None name all given text bytes opened whole = tt
+of_shard (Some c) name all given text bytes opened whole =
     let it = opened c refl in
-    (it.0, it.1, subst (λ o. IfSome o (λ bytes. items ≡ bytes)) it.2 whole)
+    subst (λ o. IsOfShard o text bytes) (sym it.1) (it.4, subst (λ o. IfSome o (λ a. bytes ≡ a)) it.2 whole)
+
+pub fetched_of : (told : Option ClusterBytes) (name : ShardName) (all given : Option (List ℕ)) (text : List ℕ) (schema : Schema) (f : Fetched) →
+    ForSome told (λ c. (s : Shard) × (find_shard c name ≡ Some s) × (all ≡ Some s.log) × (given ≡ Some []) × (text ≡ s.schema)) →
+    schema_of text ≡ Ok schema →
+    (bytes : List ℕ) × (read_as f ≡ log_meant (rules_of name.keyspace schema) bytes) × ArePlaced (StandsAt (rules_of name.keyspace schema) bytes) f.entries × IfSome all (λ a. bytes ≡ a) →
+    (t bytes : List ℕ) × IsFetchedOf name t bytes f × IfSome told (λ c. IsOfShard (find_shard c name) t bytes)
+fetched_of told name all given text schema f opened reads (bytes, meant, placed, whole) =
+    let same : schema_in text ≡ schema = schema_read text schema reads in (
+      text,
+      bytes,
+      record {
+        schema = schema;
+        reads = reads;
+        log = meant ∙ ap (λ x. log_meant (rules_of name.keyspace x) bytes) (sym same);
+        places = subst (λ x. ArePlaced (StandsAt (rules_of name.keyspace x) bytes) f.entries) (sym same) placed;
+      },
+      of_shard told name all given text bytes opened whole,
+    )
+
+-- ---- the bytes of a feed, piece by piece
+
+-- what a feed has given is what was fed, with the piece that it gives next
+pub given_next : (told first before after : Option (List ℕ)) (got : Got) (n : ℕ) (buf bytes now : List ℕ) → told ≡ first → IfSome first (λ _. before ≡ Some bytes) →
+    MatchOption told ((before ≡ None) × (after ≡ None)) (λ all. IsSomeAnd before (λ b. IsSomeAnd after (λ a. GivesNext got buf all b a))) →
+    got ≡ Bytes n → now ≡ bytes ++ take n buf → IfSome first (λ _. after ≡ Some now)
+given_next None first before after got n buf bytes now is held gives bytes_are more = subst (λ o. IfSome o (λ _. after ≡ Some now)) is tt
+given_next (Some all) first before after got n buf bytes now is held gives bytes_are more =
+    subst (λ o. IfSome o (λ _. after ≡ Some now)) is
+    (go before after (subst (λ o. IfSome o (λ _. before ≡ Some bytes)) (sym is) held) (subst (λ x. IsSomeAnd before (λ b. IsSomeAnd after (λ a. GivesNext x buf all b a))) bytes_are gives))
+  where
+    go : (before after : Option (List ℕ)) → before ≡ Some bytes → IsSomeAnd before (λ b. IsSomeAnd after (λ a. GivesNext (Bytes n) buf all b a)) → after ≡ Some now
+    go None after h g = absurd g
+    go (Some b) None h g = absurd g
+    go (Some b) (Some a) h g = let e : b ≡ bytes = cc in ap (λ z. Some z) (g.0 ∙ ap (λ z. z ++ take n buf) e ∙ sym more)
+
+pub rose_later : (before between now : ℕ) → Rose before between → between ≤ now → Rose before now
+rose_later before between now rose later = let r : raised 1 before ≤ between = rose in omega (arith, r, later)

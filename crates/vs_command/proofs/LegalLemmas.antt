@@ -1,7 +1,6 @@
 -- The frames of a shard's first due entries are legal, and end where nothing is due where they are all of them.
 use Rattle.std.proofs.Common.{◌≡◌, ℕ, Bool, true, false, ◌||◌, not, List, [], ◌∷◌, ◌++◌, Some, None, IsTrue, if◌then◌else◌, is_some, refl, sym, ap, subst, ◌∙◌}
 use Rattle.std.specs.Prelude.{IfSome, ◌⊎◌}
-use Rattle.std.specs.List.{filter}
 use Rattle.std.specs.Option.{option_or}
 use Rattle.std.proofs.Math.Bool.{or-false}
 use Rattle.vs_base.specs.declared.ShardName.{ShardName}
@@ -14,7 +13,8 @@ use Rattle.vs_gtid.specs.declared.Entry.{Entry}
 use Rattle.vs_gtid.specs.Positions.{Position, has, IsSubset, IsCanonical}
 use Rattle.vs_gtid.specs.Joins.{added}
 use Rattle.vs_gtid.specs.Logs.{Log}
-use Rattle.vs_entries.specs.Rules.{IsBuilt}
+use Rattle.vs_entries.specs.Rules.{IsNoJournal}
+use Rattle.vs_command.specs.Built.{AreBuilt, IsBuilt}
 use Rattle.vs_gtid.proofs.JoinLemmas.{has-added}
 use Rattle.vs_model.specs.Logs.{Cluster, LogsAreDistinct, log_of, after, due, stop, own_of, journal_of, up_to_own, first_own, IsPositionAfter, is_gtid_of}
 use Rattle.vs_model.specs.Vectors.{Vector, Place, place_of, moved}
@@ -25,7 +25,8 @@ use Rattle.vs_model.specs.Copy.{picked}
 use Rattle.vs_model.specs.Legal.{AllCopiedFollows, NoParticipantStands}
 use Rattle.vs_model.specs.Steps.{SendsTx, Steps}
 use Rattle.vs_command.specs.Sending.{vector_at, position_after, entry_frames, IsCanonicalAlong}
-use Rattle.vs_command.specs.Laws.{LawOfTransactions, LawOfDue, AreBuilt}
+use Rattle.vs_command.specs.Laws.{LawOfTransactions, LawOfDue, AreNoJournals}
+use Rattle.vs_command.proofs.BuiltLemmas.{kept}
 use Rattle.vs_command.specs.Streaming.{takes_all}
 
 -- the position with a GTID is the one after its entry
@@ -56,7 +57,7 @@ not_foreign s v Other h = tt
 not_foreign s v (Rows changes) h = tt
 not_foreign s v (Journal j) h = absurd h
 
-none_own : (s : ShardName) (w : Work) → IsBuilt w → own_of s (journal_of w) ≡ None
+none_own : (s : ShardName) (w : Work) → IsNoJournal w → own_of s (journal_of w) ≡ None
 none_own s (Ddl text) h = refl
 none_own s Other h = refl
 none_own s (Rows changes) h = refl
@@ -118,30 +119,22 @@ pub last_sent : (s : ShardName) (p : Position) (sent : List Entry) → last_vect
 last_sent s p [] = refl
 last_sent s p (e ∷ es) = last_sent s (added p e.gtid) es
 
--- of what is built no entry is an own journal
-up_to_all : (s : ShardName) (es : List Entry) → AreBuilt es → up_to_own s es ≡ es
+-- no entry is an own journal
+up_to_all : (s : ShardName) (es : List Entry) → AreNoJournals es → up_to_own s es ≡ es
 up_to_all s [] h = refl
 up_to_all s (e ∷ es) h =
     ap (λ o. if is_some o then [] else e ∷ up_to_own s es) (none_own s e.work h.0) ∙ ap (λ l. e ∷ l) (up_to_all s es h.1)
 
-none_first : (s : ShardName) (es : List Entry) → AreBuilt es → first_own s es ≡ None
+none_first : (s : ShardName) (es : List Entry) → AreNoJournals es → first_own s es ≡ None
 none_first s [] h = refl
 none_first s (e ∷ es) h = ap (λ o. option_or o (first_own s es)) (none_own s e.work h.0) ∙ none_first s es h.1
 
-kept_built : (f : Entry → Bool) (es : List Entry) → AreBuilt es → AreBuilt (filter f es)
-kept_built f [] h = tt
-kept_built f (e ∷ es) h = go (f e) (kept_built f es h.1)
-  where
-    go : (b : Bool) → AreBuilt (filter f es) → AreBuilt (if b then e ∷ filter f es else filter f es)
-    go true rest = (h.0, rest)
-    go false rest = rest
-
-pub after_built : (log : Log) (p : Position) → AreBuilt log.entries → AreBuilt (after log p)
-after_built log p h = kept_built (λ e. not (has p e.gtid)) log.entries h
+after_no_journals : (log : Log) (p : Position) → AreNoJournals log.entries → AreNoJournals (after log p)
+after_no_journals log p h = kept (λ e. IsNoJournal e.work) (λ e. not (has p e.gtid)) log.entries h
 
 -- so all entries that the position lacks are due, and nothing stops it
-pub due_all : (s : ShardName) (log : Log) (p : Position) → AreBuilt log.entries → due s log p ≡ after log p
-due_all s log p h = up_to_all s (after log p) (after_built log p h)
+pub due_all : (s : ShardName) (log : Log) (p : Position) → AreNoJournals log.entries → due s log p ≡ after log p
+due_all s log p h = up_to_all s (after log p) (after_no_journals log p h)
 
-pub stop_none : (s : ShardName) (log : Log) (p : Position) → AreBuilt log.entries → stop s log p ≡ None
-stop_none s log p h = none_first s (after log p) (after_built log p h)
+pub stop_none : (s : ShardName) (log : Log) (p : Position) → AreNoJournals log.entries → stop s log p ≡ None
+stop_none s log p h = none_first s (after log p) (after_no_journals log p h)

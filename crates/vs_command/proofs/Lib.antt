@@ -1,4 +1,5 @@
 pub mod SendLemmas
+pub mod BuiltLemmas
 pub mod FitLemmas
 pub mod CauseLemmas
 pub mod LegalLemmas

@@ -1,6 +1,7 @@
 -- The laws of the crates below on which the headline and the causes of answers stand, as their functions ensure them.
 use Rattle.std.specs.Prelude.{◌≡◌, ℕ, List, ◌++◌, Result}
 use Rattle.std.specs.List.{AllByRecursion}
+use Rattle.vs_base.specs.declared.Gtid.{Gtid}
 use Rattle.vs_base.specs.declared.ShardName.{ShardName}
 use Rattle.vs_gtid.specs.declared.Entry.{Entry}
 use Rattle.vs_gtid.specs.Positions.{Position}
@@ -8,7 +9,9 @@ use Rattle.vs_gtid.specs.Logs.{Log, HaveDistinctGtids}
 use Rattle.vs_log.specs.Table.{Rules}
 use Rattle.vs_log.specs.Laws.{HasNewGtids}
 use Rattle.vs_log.specs.Meaning.{log_meant}
-use Rattle.vs_entries.specs.Rules.{rules_of, IsBuilt}
+use Rattle.vs_log.specs.Productions.{StandsAt}
+use Rattle.vs_schema.specs.declared.schema.Schema.{Schema}
+use Rattle.vs_entries.specs.Rules.{rules_of, IsNoJournal}
 use Rattle.vs_frame.specs.Frames.{Begins, HasNone, IsPart, IsTooLong}
 use Rattle.vs_request.specs.Requests.{Says}
 use Rattle.vs_request.specs.declared.request.Request.{Request}
@@ -40,11 +43,14 @@ LawOfSteps = (cluster : Cluster) (rules : Filter) (v0 : Vector) (fs : List Frame
 abbrev pub LawOfNewGtids : Type 0
 LawOfNewGtids = (rules : Rules) (bytes : List ℕ) → HasNewGtids (log_meant rules bytes)
 
-abbrev pub AreBuilt : List Entry → Type 0
-AreBuilt es = AllByRecursion (λ (e : Entry). IsBuilt e.work) es
+abbrev pub AreNoJournals : List Entry → Type 0
+AreNoJournals es = AllByRecursion (λ (e : Entry). IsNoJournal e.work) es
 
-abbrev pub LawOfBuilt : Type 0
-LawOfBuilt = (keyspace bytes : List ℕ) → AreBuilt (log_meant (rules_of keyspace) bytes).entries
+abbrev pub LawOfNoJournals : Type 0
+LawOfNoJournals = (keyspace : List ℕ) (schema : Schema) (bytes : List ℕ) → AreNoJournals (log_meant (rules_of keyspace schema) bytes).entries
+
+abbrev pub LawOfPlaces : Type 0
+LawOfPlaces = (rules : Rules) (bytes : List ℕ) (g : Gtid) (at other : ℕ) → StandsAt rules bytes g at → StandsAt rules bytes g other → at ≡ other
 
 abbrev pub LawOfRequests : Type 0
 LawOfRequests = (bytes : List ℕ) (r s : Result Request RequestRefusal) → Says bytes r → Says bytes s → r ≡ s
@@ -55,7 +61,8 @@ pub record Laws : Type 0 where
   pub stop : LawOfStop
   pub steps : LawOfSteps
   pub new_gtids : LawOfNewGtids
-  pub built : LawOfBuilt
+  pub no_journals : LawOfNoJournals
+  pub places : LawOfPlaces
   pub requests : LawOfRequests
   pub part : (bytes : List ℕ) → IsPart bytes → HasNone bytes
   pub part_fits : (bytes : List ℕ) (n : ℕ) → IsPart bytes → ¬ (IsTooLong bytes n)

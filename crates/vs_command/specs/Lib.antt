@@ -1,5 +1,6 @@
 pub mod Spelling
 pub mod Requests
+pub mod Built
 pub mod Sending
 pub mod Streaming
 pub mod Words
@@ -8,3 +9,4 @@ pub mod Causes
 pub mod Showing
 pub mod StatusTexts
 pub mod Openings
+pub mod Fetched

@@ -2,16 +2,19 @@
 use Rattle.std.specs.Prelude.{◌≡◌, ◌≢◌, ◌<◌, ℕ, length, not, List, [], ◌∷◌, ◌++◌, Some, Result, Ok, Err, OnOk}
 use Rattle.std.specs.List.{filter}
 use Rattle.vs_base.specs.declared.ShardName.{ShardName}
+use Rattle.vs_base.specs.declared.Gtid.{Gtid}
 use Rattle.vs_gtid.specs.declared.Entry.{Entry}
 use Rattle.vs_gtid.specs.Positions.{Position, has, IsCanonical}
 use Rattle.vs_gtid.specs.Joins.{added}
 use Rattle.vs_outside.specs.Told.{IsPrefixOf}
+use Rattle.vs_log.specs.Laws.{FitAlong}
 use Rattle.vs_model.specs.Vectors.{Vector}
 use Rattle.vs_model.specs.Vectors.Place.{Streaming}
 use Rattle.vs_model.specs.Frames.{Frame}
 use Rattle.vs_model.specs.Frames.Frame.{Tx}
 use Rattle.vs_command.specs.declared.sending.SendEnd.{SendEnd}
-use Rattle.vs_command.specs.declared.sending.SendEnd.TheVariants.{Memory, LinkFault, PositionTooLarge}
+use Rattle.vs_command.specs.declared.sending.SendEnd.TheVariants.{Memory, LinkFault, PositionTooLarge, NotBuilt}
+use Rattle.vs_command.specs.Built.{IsFirstUnbuilt, IsNextUnbuilt, built_front}
 use Rattle.vs_command.specs.Spelling.{frame_bytes, frames_bytes}
 
 -- the vector of the one shard
@@ -51,6 +54,7 @@ IsSent s p e (Ok x) w = (frame_bytes (next_frame s p e) ≡ Some w) × IsCanonic
 IsSent s p e (Err LinkFault) w = (bytes : List ℕ) × (frame_bytes (next_frame s p e) ≡ Some bytes) × IsPrefixOf w bytes × IsCanonical (added p e.gtid)
 IsSent s p e (Err Memory) w = w ≡ []
 IsSent s p e (Err PositionTooLarge) w = (w ≡ []) × (1024 < length (added p e.gtid))
+IsSent s p e (Err (NotBuilt at)) w = ⊥
 
 -- the position with the next GTID has over 1,024 intervals
 abbrev pub IsNextTooLarge : Position → List Entry → Type 0
@@ -61,8 +65,13 @@ IsNextTooLarge p (e ∷ rest) = 1024 < length (added p e.gtid)
 abbrev pub IsTooLargeAlong : Position → List Entry → Type 0
 IsTooLargeAlong p entries = (sent rest : List Entry) × (entries ≡ sent ++ rest) × IsNextTooLarge (position_after p sent) rest
 
+-- the first entry that isn't built stands at this place, and those before it make no position that is too large
+abbrev pub StopsAtUnbuilt : (Gtid → ℕ → Type 0) → Position → List Entry → ℕ → Type 0
+StopsAtUnbuilt stands p entries at = IsFirstUnbuilt stands entries at × FitAlong p (built_front entries)
+
 -- What was written as the frames of entries were to be sent: those of the first entries, and where the link failed a beginning of them.
-pub record AreSent (s : ShardName) (p : Position) (entries : List Entry) (result : Result (Unit {0}) SendEnd) (w : List ℕ) : Type 0 where
+-- `stands` says where the GTID events of the entries stand.
+pub record AreSent (stands : Gtid → ℕ → Type 0) (s : ShardName) (p : Position) (entries : List Entry) (result : Result (Unit {0}) SendEnd) (w : List ℕ) : Type 0 where
   pub sent : List Entry
   pub rest : List Entry
   pub are : entries ≡ sent ++ rest
@@ -73,3 +82,4 @@ pub record AreSent (s : ShardName) (p : Position) (entries : List Entry) (result
   pub whole : result ≢ Err LinkFault → w ≡ bytes
   pub all : OnOk result (rest ≡ [])
   pub large : result ≡ Err PositionTooLarge → IsNextTooLarge (position_after p sent) rest
+  pub unbuilt : (at : ℕ) → result ≡ Err (NotBuilt at) → IsNextUnbuilt stands rest at

@@ -1,15 +1,25 @@
 -- What a stream of one shard writes, and what is known where it is done.
-use Rattle.std.specs.Prelude.{◌≡◌, ◌≢◌, ◌⊎◌, ℕ, List, [], ◌∷◌, ◌++◌, map, take, Some, None}
+use Rattle.std.specs.Prelude.{◌≡◌, ◌≢◌, ◌⊎◌, ℕ, List, [], ◌∷◌, ◌++◌, map, take, Option, Some, None, Result, Ok, Err}
 use Rattle.std.specs.declared.cmp.Ordering.TheVariants.{Equal}
+use Rattle.vs_base.specs.declared.Gtid.{Gtid}
 use Rattle.vs_base.specs.declared.ShardName.{ShardName}
+use Rattle.vs_base.specs.declared.Why.{Why}
+use Rattle.vs_base.specs.declared.Why.TheVariants.{NotBuilt}
 use Rattle.vs_gtid.specs.declared.Entry.{Entry}
 use Rattle.vs_gtid.specs.Logs.{Log}
 use Rattle.vs_gtid.specs.Missing.{IsFirstMissing}
 use Rattle.vs_gtid.specs.Positions.{Position, IsCanonical, IsSubset}
-use Rattle.vs_outside.specs.Clusters.{ClusterBytes, find_shard}
+use Rattle.vs_outside.specs.Clusters.{ClusterBytes, Shard, find_shard}
 use Rattle.vs_outside.specs.Told.{IsPrefixOf}
+use Rattle.vs_schema.specs.declared.schema.Schema.{Schema}
+use Rattle.vs_schema.specs.declared.refusal.SchemaRefusal.{SchemaRefusal}
+use Rattle.vs_schema.specs.declared.refusal.SchemaRefusal.TheVariants as refusal
+use Rattle.vs_schema.specs.Rules.{schema_of}
 use Rattle.vs_log.specs.Meaning.{log_meant}
+use Rattle.vs_log.specs.Productions.{StandsAt}
+use Rattle.vs_log.specs.Table.{Rules}
 use Rattle.vs_entries.specs.Rules.{rules_of}
+use Rattle.vs_entries.specs.Reading.{no_schema}
 use Rattle.vs_model.specs.Logs.{Cluster, log_of, after, due, IsPositionAfter}
 use Rattle.vs_model.specs.Vectors.{Vector}
 use Rattle.vs_model.specs.Frames.{Frame, last_vector}
@@ -18,20 +28,43 @@ use Rattle.vs_model.specs.Legal.{Legal}
 use Rattle.vs_model.specs.Reached.{IsSettled}
 use Rattle.vs_model.specs.Requests.{First, OneShard, StartAt, From, FromEnd}
 use Rattle.vs_command.specs.declared.status.Status.{Status}
-use Rattle.vs_command.specs.declared.status.Status.TheVariants.{Done, Memory, Usage, Request, UnknownShard, Purged, BadLog, FeedFault, LinkFault, InputFault, OpenFault, PositionTooLarge, BadFrame}
+use Rattle.vs_command.specs.declared.status.Status.TheVariants.{Done, Memory, Usage, Request, UnknownShard, Purged, BadLog, FeedFault, LinkFault, InputFault, OpenFault, PositionTooLarge, BadSchema, BadFrame}
 use Rattle.vs_command.specs.declared.start.Start.{Start}
 use Rattle.vs_command.specs.declared.start.Start.TheVariants.{At, Current}
+use Rattle.vs_command.specs.Built.{IsFirstUnbuilt, IsNextUnbuilt}
 use Rattle.vs_command.specs.Requests.{Asks}
 use Rattle.vs_command.specs.Sending.{AreSpelled, IsCanonicalAlong, IsNextTooLarge, position_after, vector_at}
 use Rattle.vs_command.specs.Spelling.{frames_bytes}
 
--- what the bytes of a shard's log mean, under its keyspace
-abbrev pub shard_log : ShardName → List ℕ → Log
-shard_log s bytes = log_meant (rules_of s.keyspace) bytes
+-- the schema that was read, or one without tables
+abbrev pub or_none : Result Schema SchemaRefusal → Schema
+or_none (Ok schema) = schema
+or_none (Err refused) = no_schema
+
+-- the schema that a text says; of a text that is refused, one without tables
+unfoldable pub schema_in : List ℕ → Schema
+schema_in text = or_none (schema_of text)
+
+-- how the log of a shard with this schema text is read
+abbrev pub shard_rules : ShardName → List ℕ → Rules
+shard_rules s text = rules_of s.keyspace (schema_in text)
+
+-- what the bytes of a shard's log mean, under its keyspace and its schema text
+abbrev pub shard_log : ShardName → List ℕ → List ℕ → Log
+shard_log s text bytes = log_meant (shard_rules s text) bytes
+
+-- where the GTID events of the log's entries stand in its bytes
+abbrev pub shard_places : ShardName → List ℕ → List ℕ → Gtid → ℕ → Type 0
+shard_places s text bytes g at = StandsAt (shard_rules s text) bytes g at
+
+-- the same of a shard that may be in the cluster
+abbrev pub places_in : Option Shard → ShardName → Gtid → ℕ → Type 0
+places_in None s g at = ⊥
+places_in (Some shard) s g at = shard_places s shard.schema shard.log g at
 
 -- the cluster, by what its logs mean
 abbrev pub cluster_meant : ClusterBytes → Cluster
-cluster_meant cluster = map (λ shard. (shard.name, shard_log shard.name shard.log)) cluster
+cluster_meant cluster = map (λ shard. (shard.name, shard_log shard.name shard.schema shard.log)) cluster
 
 -- The filter that takes everything: each row as it is. No copy is made yet, so it names no table and orders no key.
 abbrev pub takes_all : Filter
@@ -54,21 +87,39 @@ pub record IsNextDueTooLarge (cluster : Cluster) (s : ShardName) (p : Position) 
   pub is : v ≡ vector_at s q
   pub large : IsNextTooLarge q (due s (log_of cluster s) q)
 
+-- The next entry that is due to the shard isn't built, and stands at this place.
+pub record IsNextDueUnbuilt (stands : Gtid → ℕ → Type 0) (cluster : Cluster) (s : ShardName) (p : Position) (v : Vector) (at : ℕ) : Type 0 where
+  pub base : IsSubset (log_of cluster s).base p
+  pub q : Position
+  pub is : v ≡ vector_at s q
+  pub unbuilt : IsNextUnbuilt stands (due s (log_of cluster s) q) at
+
+-- From the log's end, the first of all entries that isn't built stands at this place.
+abbrev pub IsUnbuiltFromEnd : (Gtid → ℕ → Type 0) → Log → Start → ℕ → Type 0
+IsUnbuiltFromEnd stands log start at = (start ≡ Current) × IsFirstUnbuilt stands log.entries at
+
+-- What is wrong with a log: what its bytes say, where all that was due was sent; or what isn't built, where it is due, or anywhere in a log that is streamed from its end, and then nothing was sent.
+abbrev pub HasBadLogCause : (Gtid → ℕ → Type 0) → Cluster → ShardName → Start → Position → List Frame → ℕ → Why → Type 0
+HasBadLogCause stands cluster s start p frames offset why =
+    (((log_of cluster s).fault ≡ Some (offset, why)) × HasSentAll cluster s p (last_vector (vector_at s p) frames))
+    ⊎ ((why ≡ NotBuilt) × (IsNextDueUnbuilt stands cluster s p (last_vector (vector_at s p) frames) offset ⊎ (IsUnbuiltFromEnd stands (log_of cluster s) start offset × (frames ≡ []))))
+
 -- What an answer says of the shard that was asked for from a position, of its log, and of the vector that the stream came to; of other shards nothing is said here.
-abbrev pub HasCause : Cluster → ShardName → Position → List Frame → Status → Type 0
-HasCause cluster s p frames Done = HasSentAll cluster s p (last_vector (vector_at s p) frames) × ((log_of cluster s).fault ≡ None)
-HasCause cluster s p frames (BadLog name offset why) = (name ≡ s) × ((log_of cluster s).fault ≡ Some (offset, why)) × HasSentAll cluster s p (last_vector (vector_at s p) frames)
-HasCause cluster s p frames (Purged name missing) = (name ≡ s) × IsFirstMissing (log_of cluster s).base p missing × (frames ≡ [])
-HasCause cluster s p frames (PositionTooLarge name) = (name ≡ s) × IsNextDueTooLarge cluster s p (last_vector (vector_at s p) frames)
-HasCause cluster s p frames LinkFault = IsSubset (log_of cluster s).base p
-HasCause cluster s p frames Memory = Unit {0}
-HasCause cluster s p frames Usage = ⊥
-HasCause cluster s p frames (BadFrame number frame_why) = ⊥
-HasCause cluster s p frames (Request fault) = ⊥
-HasCause cluster s p frames (UnknownShard name) = ⊥
-HasCause cluster s p frames (FeedFault name) = ⊥
-HasCause cluster s p frames InputFault = ⊥
-HasCause cluster s p frames (OpenFault name) = ⊥
+abbrev pub HasCause : (Gtid → ℕ → Type 0) → Cluster → ShardName → Start → Position → List Frame → Status → Type 0
+HasCause stands cluster s start p frames Done = HasSentAll cluster s p (last_vector (vector_at s p) frames) × ((log_of cluster s).fault ≡ None)
+HasCause stands cluster s start p frames (BadLog name offset why) = (name ≡ s) × HasBadLogCause stands cluster s start p frames offset why
+HasCause stands cluster s start p frames (Purged name missing) = (name ≡ s) × IsFirstMissing (log_of cluster s).base p missing × (frames ≡ [])
+HasCause stands cluster s start p frames (PositionTooLarge name) = (name ≡ s) × IsNextDueTooLarge cluster s p (last_vector (vector_at s p) frames)
+HasCause stands cluster s start p frames LinkFault = IsSubset (log_of cluster s).base p
+HasCause stands cluster s start p frames Memory = Unit {0}
+HasCause stands cluster s start p frames Usage = ⊥
+HasCause stands cluster s start p frames (BadFrame number frame_why) = ⊥
+HasCause stands cluster s start p frames (Request fault) = ⊥
+HasCause stands cluster s start p frames (UnknownShard name) = ⊥
+HasCause stands cluster s start p frames (FeedFault name) = ⊥
+HasCause stands cluster s start p frames InputFault = ⊥
+HasCause stands cluster s start p frames (OpenFault name) = ⊥
+HasCause stands cluster s start p frames (BadSchema name line) = ⊥
 
 -- the answers of a stream, once its request was read
 abbrev pub IsOfStream : Status → Type 0
@@ -85,6 +136,7 @@ IsOfStream (FeedFault name) = Unit {0}
 IsOfStream LinkFault = Unit {0}
 IsOfStream (OpenFault name) = Unit {0}
 IsOfStream (PositionTooLarge name) = Unit {0}
+IsOfStream (BadSchema name line) = Unit {0}
 
 -- the answers of a stream whose log was read
 abbrev pub IsOfLog : Status → Type 0
@@ -101,6 +153,7 @@ IsOfLog InputFault = ⊥
 IsOfLog (UnknownShard name) = ⊥
 IsOfLog (FeedFault name) = ⊥
 IsOfLog (OpenFault name) = ⊥
+IsOfLog (BadSchema name line) = ⊥
 
 -- the answers that come before a stream begins
 abbrev pub IsBeforeStream : Status → Type 0
@@ -117,10 +170,17 @@ IsBeforeStream (FeedFault name) = ⊥
 IsBeforeStream LinkFault = ⊥
 IsBeforeStream (OpenFault name) = ⊥
 IsBeforeStream (PositionTooLarge name) = ⊥
+IsBeforeStream (BadSchema name line) = ⊥
+
+-- the schema text of a shard is refused at this line
+abbrev pub HasBadSchema : Option Shard → ℕ → Type 0
+HasBadSchema None line = ⊥
+HasBadSchema (Some shard) line = schema_of shard.schema ≡ Err (refusal.BadSchema line)
 
 -- The answers that come where no stream of the shard began: its log was not read, or memory ran out before the start was known.
 abbrev pub IsUnread : ClusterBytes → ShardName → Status → Type 0
 IsUnread cluster s (UnknownShard name) = (name ≡ s) × (find_shard cluster s ≡ None)
+IsUnread cluster s (BadSchema name line) = (name ≡ s) × HasBadSchema (find_shard cluster s) line
 IsUnread cluster s (FeedFault name) = name ≡ s
 IsUnread cluster s (OpenFault name) = name ≡ s
 IsUnread cluster s Memory = Unit {0}
@@ -147,7 +207,7 @@ pub record Answers (cluster : ClusterBytes) (name : ShardName) (start : Start) (
   pub spelled : frames_bytes frames ≡ Some bytes
   pub prefix : IsPrefixOf written bytes
   pub whole : status ≢ LinkFault → written ≡ bytes
-  pub cause : HasCause (cluster_meant cluster) name p frames status
+  pub cause : HasCause (places_in (find_shard cluster name) name) (cluster_meant cluster) name start p frames status
 
 -- A shard was asked for: no stream of it began, and nothing was written; or what was written answers.
 pub data Outcome (cluster : ClusterBytes) (name : ShardName) (start : Start) (waited : Type 0) (status : Status) (written : List ℕ) : Type 0 where
@@ -159,24 +219,31 @@ abbrev pub IsStart : Log → Start → Type 0 → Position → Type 0
 IsStart log (At set) whole p = p ≡ set
 IsStart log Current whole p = (m : ℕ) × IsPositionAfter log.base (take m log.entries) p × (whole → take m log.entries ≡ log.entries)
 
+-- what is wrong with a log, by what was sent of it
+abbrev pub HasFault : (Gtid → ℕ → Type 0) → Log → Start → Position → List Entry → List Entry → ℕ → Why → Type 0
+HasFault stands log start p sent rest offset why =
+    ((log.fault ≡ Some (offset, why)) × (rest ≡ []) × IsSubset log.base p)
+    ⊎ ((why ≡ NotBuilt) × ((IsNextUnbuilt stands rest offset × IsSubset log.base p) ⊎ (IsUnbuiltFromEnd stands log start offset × (sent ≡ []))))
+
 -- What an answer about the log of a shard says of it, and of the entries that were sent and those left; the other answers are none about a log.
-abbrev pub HasLogCause : ShardName → Log → Position → List Entry → List Entry → Status → Type 0
-HasLogCause s log p sent rest Done = (rest ≡ []) × IsSubset log.base p × (log.fault ≡ None)
-HasLogCause s log p sent rest (BadLog name offset why) = (name ≡ s) × (log.fault ≡ Some (offset, why)) × (rest ≡ []) × IsSubset log.base p
-HasLogCause s log p sent rest (Purged name missing) = (name ≡ s) × IsFirstMissing log.base p missing × (sent ≡ [])
-HasLogCause s log p sent rest (PositionTooLarge name) = (name ≡ s) × IsNextTooLarge (position_after p sent) rest × IsSubset log.base p
-HasLogCause s log p sent rest LinkFault = IsSubset log.base p
-HasLogCause s log p sent rest Memory = Unit {0}
-HasLogCause s log p sent rest Usage = ⊥
-HasLogCause s log p sent rest (BadFrame number frame_why) = ⊥
-HasLogCause s log p sent rest (Request fault) = ⊥
-HasLogCause s log p sent rest (UnknownShard name) = ⊥
-HasLogCause s log p sent rest (FeedFault name) = ⊥
-HasLogCause s log p sent rest InputFault = ⊥
-HasLogCause s log p sent rest (OpenFault name) = ⊥
+abbrev pub HasLogCause : (Gtid → ℕ → Type 0) → ShardName → Log → Start → Position → List Entry → List Entry → Status → Type 0
+HasLogCause stands s log start p sent rest Done = (rest ≡ []) × IsSubset log.base p × (log.fault ≡ None)
+HasLogCause stands s log start p sent rest (BadLog name offset why) = (name ≡ s) × HasFault stands log start p sent rest offset why
+HasLogCause stands s log start p sent rest (Purged name missing) = (name ≡ s) × IsFirstMissing log.base p missing × (sent ≡ [])
+HasLogCause stands s log start p sent rest (PositionTooLarge name) = (name ≡ s) × IsNextTooLarge (position_after p sent) rest × IsSubset log.base p
+HasLogCause stands s log start p sent rest LinkFault = IsSubset log.base p
+HasLogCause stands s log start p sent rest Memory = Unit {0}
+HasLogCause stands s log start p sent rest Usage = ⊥
+HasLogCause stands s log start p sent rest (BadFrame number frame_why) = ⊥
+HasLogCause stands s log start p sent rest (Request fault) = ⊥
+HasLogCause stands s log start p sent rest (UnknownShard name) = ⊥
+HasLogCause stands s log start p sent rest (FeedFault name) = ⊥
+HasLogCause stands s log start p sent rest InputFault = ⊥
+HasLogCause stands s log start p sent rest (OpenFault name) = ⊥
+HasLogCause stands s log start p sent rest (BadSchema name line) = ⊥
 
 -- What was written of a log, from a position: the frames of the first entries that the position lacks, and where the link failed a beginning of them.
-pub record IsStreamed (s : ShardName) (log : Log) (p : Position) (status : Status) (written : List ℕ) : Type 0 where
+pub record IsStreamed (stands : Gtid → ℕ → Type 0) (s : ShardName) (log : Log) (start : Start) (p : Position) (status : Status) (written : List ℕ) : Type 0 where
   pub sent : List Entry
   pub rest : List Entry
   pub are : after log p ≡ sent ++ rest
@@ -186,13 +253,13 @@ pub record IsStreamed (s : ShardName) (log : Log) (p : Position) (status : Statu
   pub prefix : IsPrefixOf written bytes
   pub whole : status ≢ LinkFault → written ≡ bytes
   pub base : (sent ≡ []) ⊎ IsSubset log.base p
-  pub cause : HasLogCause s log p sent rest status
+  pub cause : HasLogCause stands s log start p sent rest status
 
 -- a stream of a log from a start, or want of memory before it
-abbrev pub IsStreamedFrom : ShardName → Log → Start → Type 0 → Status → List ℕ → Type 0
-IsStreamedFrom s log start whole status written =
+abbrev pub IsStreamedFrom : (Gtid → ℕ → Type 0) → ShardName → Log → Start → Type 0 → Status → List ℕ → Type 0
+IsStreamedFrom stands s log start whole status written =
     ((status ≡ Memory) × (written ≡ []))
-    ⊎ ((p : Position) × IsStart log start whole p × IsCanonical p × IsStreamed s log p status written)
+    ⊎ ((p : Position) × IsStart log start whole p × IsCanonical p × IsStreamed stands s log start p status written)
 
 -- The headline: what is written answers the request frame at the front of the input, or nothing is written and the answer came before any stream.
 -- `waited` says of a shard that its feed had nothing yet in the call.

@@ -17,9 +17,9 @@ use crate::status::Status;
 use crate::streaming::stream_log;
 use std::alloc::Global;
 use std::sync::Wait;
-use vs_entries::law_built;
+use vs_entries::law_no_journals;
 use vs_frame::law_front;
-use vs_log::law_distinct;
+use vs_log::{law_distinct, law_places};
 use vs_model::{law_due, law_frames, law_steps};
 use vs_outside::{Clock, Sink, Source, Tablets};
 use vs_request::law_requests;
@@ -32,7 +32,8 @@ fn laws()
     law_frames();
     law_due();
     law_distinct();
-    law_built();
+    law_no_journals();
+    law_places();
     law_front();
     law_requests();
 }
@@ -55,9 +56,10 @@ fn stream_shard<R: Wait, O: Sink, T: Tablets>(
     laws();
     let Asked { name, start } = asked;
     match fetch_log(rt, alloc, tablets, &name) {
-        Ok(Some(fetched)) => stream_log(alloc, output, name, start, &fetched),
+        Ok(Some(fetched)) => stream_log(alloc, output, name, start, fetched),
         Ok(None) => Status::UnknownShard { name },
         Err(FetchEnd::Memory) => Status::Memory,
+        Err(FetchEnd::BadSchema { line }) => Status::BadSchema { name, line },
         Err(FetchEnd::OpenFault) => Status::OpenFault { name },
         Err(FetchEnd::FeedFault) => Status::FeedFault { name },
     }

@@ -1,7 +1,7 @@
 ghost use Rattle.std.specs.Prelude.{◌≡◌, IfOk, Some, map};
 ghost use Rattle.std.specs.Option.{option_map};
-ghost use Rattle.vs_entries.specs.Rules.{IsBuilt};
 ghost use Rattle.vs_model.specs.Frames.Frame.{Tx};
+ghost use Rattle.vs_command.specs.Built.{IsBuilt};
 ghost use Rattle.vs_command.specs.Sending.{vector_at};
 ghost use Rattle.vs_command.specs.Spelling.{
   Statement,
@@ -16,7 +16,8 @@ ghost use Rattle.vs_command.specs.Spelling.{
 use std::alloc::{AllocError, Global};
 use vs_base::{List, OutOfMemory, ShardName, Text};
 use vs_frame::put_frame;
-use vs_gtid::{Entry, GtidSet, Work};
+use vs_gtid::GtidSet;
+use vs_journal::{Entry, Work};
 use vs_proto::{ShardGtid, VEvent, VGtid, VStreamResponse, write_response};
 
 /// The kinds of events, as `binlogdata.proto` numbers them.
@@ -33,11 +34,18 @@ const VGTID_EVENT: i32 = 15;
 /// The most bytes that a frame's message may have.
 const LIMIT: usize = 16_777_216;
 
+/// The bytes of a message's length in front of it.
+const HEADER: usize = 4;
+
+/// Room for the text of a position of one interval, so that it need not grow.
+const SHORT_POSITION: usize = 96;
+
 /// The vector of the one shard.
 fn vgtid_of(alloc: Global, name: &ShardName, position: &GtidSet) -> Result<VGtid, OutOfMemory>
     ensures { IfOk result (λ m. m ≡ vgtid_of (vector_at name.now position.now)) }
 {
-    let mut gtid = Vec::from_slice(alloc, b"MySQL56/")?;
+    let mut gtid = Vec::with_capacity(alloc, SHORT_POSITION)?;
+    gtid.extend_from_slice(b"MySQL56/")?;
     position.put_text(alloc, &mut gtid)?;
     let shard = ShardGtid {
         keyspace: name.keyspace.copy(alloc)?,
@@ -147,7 +155,7 @@ pub fn entry_frame(
     if message.len() > LIMIT {
         return Err(AllocError);
     }
-    let mut frame = Vec::new(alloc);
+    let mut frame = Vec::with_capacity(alloc, message.len() + HEADER)?;
     put_frame(alloc, &mut frame, &message)?;
     Ok(frame)
 }

@@ -3,6 +3,7 @@
 
 mod connection;
 mod fetch;
+mod fetched;
 mod frame;
 mod host;
 mod options;

@@ -13,7 +13,7 @@ ghost use Rattle.vs_base.specs.declared.Why.{Why};
 ghost use Rattle.vs_outside.specs.Counts.{Rose};
 ghost use Rattle.vs_outside.specs.Told.{Writes};
 ghost use Rattle.vs_command.specs.declared.status.RequestFault.{RequestFault};
-ghost use Rattle.vs_command.specs.Causes.{AnswersLog, HasRead, IsOutside, IsUnknown};
+ghost use Rattle.vs_command.specs.Causes.{AnswersLog, HasRead, IsBadSchema, IsOutside, IsUnknown};
 ghost use Rattle.vs_command.specs.Requests.{IsFaultOf};
 ghost use Rattle.vs_command.specs.Streaming.{Headline};
 ghost use Rattle.vs_command.specs.Words.{AreStreamWords};
@@ -70,6 +70,8 @@ pub fn run<R: Wait, I: Source, O: Sink, T: Tablets, C: Clock>(
     // the shard and its log
     ensures unknown { (name : ShardName) → result ≡ Status.UnknownShard name → IfSome (T.cluster tablets.old) (λ c. IfSome (I.left input.old) (λ bytes. IsUnknown c bytes name)) }
     ensures unknown_when { (folder : Items ℕ) (name : ShardName) → AreStreamWords words.now folder → IfSome (T.cluster tablets.old) (λ c. IfSome (I.left input.old) (λ bytes. IsUnknown c bytes name → IsOutside result ⊎ (result ≡ Status.UnknownShard name))) }
+    ensures bad_schema { (name : ShardName) (line : ℕ) → result ≡ Status.BadSchema name line → IfSome (T.cluster tablets.old) (λ c. IfSome (I.left input.old) (λ bytes. IsBadSchema c bytes name line)) }
+    ensures bad_schema_when { (folder : Items ℕ) (name : ShardName) (line : ℕ) → AreStreamWords words.now folder → IfSome (T.cluster tablets.old) (λ c. IfSome (I.left input.old) (λ bytes. IsBadSchema c bytes name line → IsOutside result ⊎ (result ≡ Status.BadSchema name line))) }
     ensures purged { (name : ShardName) (missing : Gtid) → result ≡ Status.Purged name missing → IfSome (T.cluster tablets.old) (λ c. IfSome (I.left input.old) (λ bytes. AnswersLog c bytes (Status.Purged name missing))) }
     ensures purged_when { (folder : Items ℕ) (name : ShardName) (missing : Gtid) → AreStreamWords words.now folder → IfSome (T.cluster tablets.old) (λ c. IfSome (I.left input.old) (λ bytes. AnswersLog c bytes (Status.Purged name missing) → IsOutside result ⊎ (result ≡ Status.Purged name missing))) }
     ensures bad_log { (name : ShardName) (offset : ℕ) (why : Why) → result ≡ Status.BadLog name offset why → IfSome (T.cluster tablets.old) (λ c. IfSome (I.left input.old) (λ bytes. AnswersLog c bytes (Status.BadLog name offset why))) }

@@ -82,6 +82,11 @@ pub enum Status {
     PositionTooLarge {
         name: ShardName,
     },
+    /// The schema text of the shard is refused at this line, from 1 on.
+    BadSchema {
+        name: ShardName,
+        line: usize,
+    },
     /// The frame of a recording with this number, from 1 on, is the first that is none.
     BadFrame {
         number: u64,
@@ -108,6 +113,7 @@ impl Status {
             Status::InputFault => 11,
             Status::OpenFault { .. } => 12,
             Status::PositionTooLarge { .. } => 14,
+            Status::BadSchema { .. } => 16,
             Status::BadFrame { .. } => 17,
         }
     }
@@ -136,12 +142,13 @@ fn put_line(alloc: Global, status: &Status, out: &mut Vec<u8>) -> Result<(), Out
         Status::Request(fault) => put_request(alloc, fault, out),
         Status::UnknownShard { name } => put_named(b"unknown shard ", name, out),
         Status::Purged { name, missing } => put_purged(alloc, name, *missing, out),
-        Status::BadLog { name, offset, why } => put_bad_log(alloc, name, *offset, *why, out),
+        Status::BadLog { name, offset, why } => put_bad_log(alloc, name, *offset, why, out),
         Status::FeedFault { name } => put_named(b"feed fault ", name, out),
         Status::LinkFault => put_words(b"link fault", out),
         Status::InputFault => put_words(b"input fault", out),
         Status::OpenFault { name } => put_named(b"open fault ", name, out),
         Status::PositionTooLarge { name } => put_named(b"position too large ", name, out),
+        Status::BadSchema { name, line } => put_bad_schema(alloc, name, *line, out),
         Status::BadFrame { number, why } => put_bad_frame(alloc, *number, *why, out),
     }
 }
@@ -239,10 +246,10 @@ fn put_bad_log(
     alloc: Global,
     name: &ShardName,
     offset: u64,
-    why: Why,
+    why: &Why,
     out: &mut Vec<u8>,
 ) -> Result<(), OutOfMemory>
-    ensures { OnOk result (out.new.items ≡ out.old.items ++ (codes "bad log " ++ name_text name.now ++ codes " at " ++ decimal offset ++ codes ": " ++ why_text why)) }
+    ensures { OnOk result (out.new.items ≡ out.old.items ++ (codes "bad log " ++ name_text name.now ++ codes " at " ++ decimal offset ++ codes ": " ++ why_text why.now)) }
 {
     put_named(b"bad log ", name, out)?;
     put_counted(alloc, b" at ", offset, out)?;
@@ -250,29 +257,65 @@ fn put_bad_log(
     put_why(alloc, why, out)
 }
 
+fn put_bad_schema(
+    alloc: Global,
+    name: &ShardName,
+    line: usize,
+    out: &mut Vec<u8>,
+) -> Result<(), OutOfMemory>
+    ensures { OnOk result (out.new.items ≡ out.old.items ++ (codes "bad schema " ++ name_text name.now ++ codes " line " ++ decimal line)) }
+{
+    put_named(b"bad schema ", name, out)?;
+    put_counted(alloc, b" line ", line as u64, out)
+}
+
 #[tactic(auto, unfolding(crate::specs::StatusTexts::why_text))]
-fn put_why(alloc: Global, why: Why, out: &mut Vec<u8>) -> Result<(), OutOfMemory>
-    ensures { OnOk result (out.new.items ≡ out.old.items ++ why_text why) }
+fn put_why(alloc: Global, why: &Why, out: &mut Vec<u8>) -> Result<(), OutOfMemory>
+    ensures { OnOk result (out.new.items ≡ out.old.items ++ why_text why.now) }
 {
     match why {
         Why::BadMagic => put_words(b"bad magic", out),
         Why::NoFormat => put_words(b"no format", out),
-        Why::BadVersion { version } => put_counted(alloc, b"version ", u64::from(version), out),
+        Why::BadVersion { version } => put_counted(alloc, b"version ", u64::from(*version), out),
         Why::Checksummed { .. } => put_words(b"checksummed", out),
-        Why::BadLength { length } => put_counted(alloc, b"bad length ", u64::from(length), out),
-        Why::BadEvent { kind } => put_kind(alloc, b"bad event ", kind, out),
-        Why::BadOrder { kind } => put_kind_between(alloc, b"event ", kind, b" out of order", out),
+        Why::BadLength { length } => put_counted(alloc, b"bad length ", u64::from(*length), out),
+        Why::BadEvent { kind } => put_kind(alloc, b"bad event ", *kind, out),
+        Why::BadOrder { kind } => put_kind_between(alloc, b"event ", *kind, b" out of order", out),
         Why::NestedBegin => put_words(b"nested begin", out),
         Why::Anonymous => put_words(b"anonymous", out),
         Why::BadGtid => put_words(b"bad gtid", out),
         Why::RepeatedGtid { .. } => put_words(b"repeated gtid", out),
-        Why::Unsupported { kind } => put_kind(alloc, b"unsupported event ", kind, out),
+        Why::Unsupported { kind } => put_kind(alloc, b"unsupported event ", *kind, out),
         Why::UnsupportedStatement => put_words(b"unsupported statement", out),
         Why::TooLarge { .. } => put_words(b"too large", out),
         Why::TooManyIntervals => put_words(b"too many intervals", out),
+        Why::UnknownTableId { id } => put_counted(alloc, b"unknown table id ", *id, out),
+        Why::UnknownTable { table } => put_text(b"unknown table ", table, out),
+        Why::Disagrees { table } => put_text_between(b"table ", table, b" disagrees", out),
+        Why::NotFullImage { table } => put_text_between(b"table ", table, b" not full", out),
+        Why::BadRow { table } => put_text(b"bad row of ", table, out),
         Why::JournalNotAlone => put_words(b"journal not alone", out),
         Why::NotBuilt => put_words(b"not built", out),
     }
+}
+
+fn put_text_between(
+    words: &[u8],
+    text: &Text,
+    more: &[u8],
+    out: &mut Vec<u8>,
+) -> Result<(), OutOfMemory>
+    ensures { OnOk result (out.new.items ≡ out.old.items ++ (words.now ++ (text.now ++ more.now))) }
+{
+    put_text(words, text, out)?;
+    put_words(more, out)
+}
+
+fn put_text(words: &[u8], text: &Text, out: &mut Vec<u8>) -> Result<(), OutOfMemory>
+    ensures { OnOk result (out.new.items ≡ out.old.items ++ (words.now ++ text.now)) }
+{
+    out.extend_from_slice(words)?;
+    out.extend_from_slice(text.as_bytes())
 }
 
 fn put_kind_between(

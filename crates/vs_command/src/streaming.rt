@@ -1,31 +1,34 @@
-ghost use Rattle.std.specs.Prelude.{◌≡◌, ◌≤◌, ◌⊎◌, IfOk, None, take};
+ghost use Rattle.std.specs.Prelude.{◌≡◌, ◌≤◌, ◌⊎◌, IfOk, MatchOption, None, take};
 ghost use Rattle.vs_outside.specs.Counts.{Rose};
 ghost use Rattle.vs_outside.specs.Told.{Writes};
 ghost use Rattle.vs_log.specs.Laws.{FitAlong, HasNewGtids};
-ghost use Rattle.vs_entries.specs.Reading.{read_as};
+ghost use Rattle.vs_command.specs.Built.{AreBuilt, IsFirstUnbuilt};
 ghost use Rattle.vs_command.specs.Causes.{IsOutside, LogAsksFor};
+ghost use Rattle.vs_command.specs.Fetched.{IsPlaced, entries_of, read_as};
 ghost use Rattle.vs_command.specs.Sending.{lacking, position_after};
-ghost use Rattle.vs_command.specs.Streaming.{IsOfLog, IsStart, IsStreamedFrom, shard_log};
+ghost use Rattle.vs_command.specs.Streaming.{IsOfLog, IsStart, IsStreamedFrom};
 
-use crate::fetch::Fetched;
-use crate::sending::{SendEnd, send_entries};
+use crate::fetched::{Fetched, Placed};
+use crate::sending::{SendEnd, is_built, send_entries};
 use crate::start::Start;
 use crate::status::Status;
 use std::alloc::{AllocError, Global};
-use vs_base::{OutOfMemory, ShardName};
-use vs_entries::{LogRead, law_built, read_log};
-use vs_gtid::{Entry, GtidSet};
-use vs_log::law_distinct;
+use vs_base::{OutOfMemory, ShardName, Why};
+use vs_gtid::GtidSet;
 use vs_outside::Sink;
 
 /// The position behind a base and these entries.
-fn position_behind(alloc: Global, base: &GtidSet, entries: &[Entry]) -> Result<GtidSet, OutOfMemory>
-    ensures { IfOk result (λ p. p ≡ position_after base.now entries.now) }
+fn position_behind(
+    alloc: Global,
+    base: &GtidSet,
+    entries: &[Placed],
+) -> Result<GtidSet, OutOfMemory>
+    ensures { IfOk result (λ p. p ≡ position_after base.now (entries_of entries.now)) }
 {
     let mut position = base.copy(alloc)?;
-    for entry in entries {
+    for placed in entries {
         // No log is read whose GTIDs make a set of too many intervals.
-        match position.add(entry.gtid) {
+        match position.add(placed.entry.gtid) {
             Ok(()) => {}
             Err(_) => return Err(AllocError),
         }
@@ -33,43 +36,53 @@ fn position_behind(alloc: Global, base: &GtidSet, entries: &[Entry]) -> Result<G
     Ok(position)
 }
 
-/// How many of the log's entries stood whole at the mark; all of them where there is none.
-fn count_at_mark(
-    alloc: Global,
-    fetched: &Fetched,
-    keyspace: &[u8],
-    all: usize,
-) -> Result<usize, OutOfMemory>
-    ensures within { IfOk result (λ n. n ≤ all) }
-    ensures unmarked { IfOk result (λ n. fetched.now.mark ≡ None → n ≡ all) }
+/// How many of so many entries stood whole at the mark; all of them where there is none.
+fn count_at(mark: Option<usize>, all: usize) -> usize
+    ensures within { result ≤ all }
+    ensures unmarked { mark ≡ None → result ≡ all }
 {
-    let Some(mark) = fetched.mark else {
-        return Ok(all);
-    };
-    let log = fetched.log.as_slice();
-    let read = read_log(alloc, &log[..mark.min(log.len())], keyspace)?;
-    Ok(read.entries.as_slice().len().min(all))
+    match mark {
+        Some(count) => count.min(all),
+        None => all,
+    }
 }
 
 /// The position of a start in a log.
-fn position_of(
-    alloc: Global,
-    start: Start,
-    read: &LogRead,
-    fetched: &Fetched,
-    keyspace: &[u8],
-) -> Result<GtidSet, OutOfMemory>
-    requires { HasNewGtids (read_as read.now) }
-    ensures start { IfOk result (λ p. IsStart (read_as read.now) start (fetched.now.mark ≡ None) p) }
-    ensures fits { start ≡ Start.Current → IfOk result (λ p. FitAlong p (lacking p read.now.entries)) }
+fn position_of(alloc: Global, start: Start, fetched: &Fetched) -> Result<GtidSet, OutOfMemory>
+    requires { HasNewGtids (read_as fetched.now) }
+    ensures start { IfOk result (λ p. IsStart (read_as fetched.now) start (fetched.now.mark ≡ None) p) }
+    ensures fits { start ≡ Start.Current → IfOk result (λ p. FitAlong p (lacking p (entries_of fetched.now.entries))) }
 {
     match start {
         Start::At(set) => Ok(set),
         Start::Current => {
-            let entries = read.entries.as_slice();
-            let count = count_at_mark(alloc, fetched, keyspace, entries.len())?;
-            position_behind(alloc, &read.base, &entries[..count])
+            let entries = fetched.entries.as_slice();
+            let count = count_at(fetched.mark, entries.len());
+            position_behind(alloc, &fetched.base, &entries[..count])
         }
+    }
+}
+
+/// The place of the first entry that can't be sent.
+fn first_unbuilt(entries: &[Placed]) -> Option<u64>
+    ensures { MatchOption result (AreBuilt (entries_of entries.now)) (λ at. IsFirstUnbuilt (IsPlaced entries.now) (entries_of entries.now) at) }
+{
+    for placed in entries {
+        if !is_built(&placed.entry.work) {
+            return Some(placed.at);
+        }
+    }
+    None
+}
+
+/// Which entries are due from the log's end hangs on how the feed came. So there the whole log is to be
+/// such as can be sent: the place of the first entry that isn't.
+fn unbuilt_from_end(start: &Start, entries: &[Placed]) -> Option<u64>
+    ensures { MatchOption result (start.now ≡ Start.Current → AreBuilt (entries_of entries.now)) (λ at. (start.now ≡ Start.Current) × IsFirstUnbuilt (IsPlaced entries.now) (entries_of entries.now) at) }
+{
+    match start {
+        Start::At(_) => None,
+        Start::Current => first_unbuilt(entries),
     }
 }
 
@@ -79,35 +92,47 @@ pub fn stream_log<O: Sink>(
     output: &mut O,
     name: ShardName,
     start: Start,
-    fetched: &Fetched,
+    fetched: Fetched,
 ) -> Status
-    ensures wrote { Writes (O.sent output.old) (O.sent output.new) (λ w. IsStreamedFrom name (shard_log name fetched.now.log.items) start (fetched.now.mark ≡ None) result w) }
-    ensures due { IsOutside result ⊎ LogAsksFor name (shard_log name fetched.now.log.items) start result }
+    requires { HasNewGtids (read_as fetched) }
+    ensures wrote { Writes (O.sent output.old) (O.sent output.new) (λ w. IsStreamedFrom (IsPlaced fetched.entries) name (read_as fetched) start (fetched.mark ≡ None) result w) }
+    ensures due { IsOutside result ⊎ LogAsksFor (IsPlaced fetched.entries) name (read_as fetched) start result }
     ensures kind { IsOfLog result }
     ensures later { O.faults output.old ≤ O.faults output.new }
     ensures link { result ≡ Status.LinkFault → Rose (O.faults output.old) (O.faults output.new) }
 {
-    law_built();
-    law_distinct();
-    let keyspace = name.keyspace.as_bytes();
-    let Ok(read) = read_log(alloc, &fetched.log, keyspace) else {
-        return Status::Memory;
-    };
-    let Ok(start) = position_of(alloc, start, &read, fetched, keyspace) else {
+    let entries = fetched.entries.as_slice();
+    let unbuilt = unbuilt_from_end(&start, entries);
+    let Ok(start) = position_of(alloc, start, &fetched) else {
         return Status::Memory;
     };
     // The call also tells the proof that the position is canonical.
     let _count = start.intervals();
-    if let Some(missing) = read.base.first_missing(&start) {
+    if let Some(missing) = fetched.base.first_missing(&start) {
         return Status::Purged { name, missing };
     }
-    match send_entries(alloc, output, &name, read.entries.as_slice(), &start) {
+    if let Some(offset) = unbuilt {
+        return Status::BadLog {
+            name,
+            offset,
+            why: Why::NotBuilt,
+        };
+    }
+    match send_entries(alloc, output, &name, entries, &start) {
         Ok(()) => {}
         Err(SendEnd::Memory) => return Status::Memory,
         Err(SendEnd::LinkFault) => return Status::LinkFault,
         Err(SendEnd::PositionTooLarge) => return Status::PositionTooLarge { name },
+        Err(SendEnd::NotBuilt { offset }) => {
+            return Status::BadLog {
+                name,
+                offset,
+                why: Why::NotBuilt,
+            };
+        }
     }
-    match read.fault {
+    let Fetched { fault, .. } = fetched;
+    match fault {
         Some(fault) => Status::BadLog {
             name,
             offset: fault.offset,

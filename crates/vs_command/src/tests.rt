@@ -5,9 +5,8 @@ use std::process::Abort;
 use std::sync::Wait;
 use vs_base::{Column, ColumnKind, Gtid, List, ShardName, Text};
 use vs_frame::{law_front, put_frame};
-use vs_gtid::{
-    Entry, GtidSet, JournalValue, Successor, Work, law_added, law_equal_sets, law_united,
-};
+use vs_gtid::{GtidSet, law_added, law_equal_sets, law_united};
+use vs_journal::{Entry, JournalValue, Successor, Work};
 use vs_outside::{
     FeedAnswer, MemClock, MemSink, MemSource, MemTablets, SinkAnswer, names_keyspace, names_shard,
 };
@@ -77,6 +76,24 @@ const BEGIN: [u8; 14] = *b"\x0a\x0c\x08\x02\x10\x64\xb2\x01\x01\x63\xba\x01\x01\
 
 const COMMIT: [u8; 14] = *b"\x0a\x0c\x08\x03\x10\x64\xb2\x01\x01\x63\xba\x01\x01\x30";
 
+/// Where its last event begins.
+const END: usize = 86;
+
+/// A table map of the table t of `vt_c`, whose number is 7: an integer and a text of up to 20 bytes.
+const TABLE_MAP: [u8; 43] =
+    *b"\x64\x00\x00\x00\x13\x01\x00\x00\x00\x2b\x00\x00\x00\x00\x00\x00\x00\x00\x00\x07\
+    \x00\x00\x00\x00\x00\x01\x00\x04\x76\x74\x5f\x63\x00\x01\x74\x00\x02\x03\x0f\x02\
+    \x14\x00\x02";
+
+/// It gets two rows: 5 and `a`, and 6 and NULL.
+const ROWS: [u8; 43] =
+    *b"\x64\x00\x00\x00\x1e\x01\x00\x00\x00\x2b\x00\x00\x00\x00\x00\x00\x00\x00\x00\x07\
+    \x00\x00\x00\x00\x00\x01\x00\x02\x00\x02\x03\x00\x05\x00\x00\x00\x01\x61\x02\x06\
+    \x00\x00\x00";
+
+/// The schema text of the table.
+const TABLE: &[u8] = b"table t\ncolumn id int\ncolumn v varchar(20)\nkey id\n";
+
 /// A PREVIOUS_GTIDS event of the numbers 1 to 5.
 const PREVIOUS: [u8; 67] =
     *b"\x00\x00\x00\x00\x23\x01\x00\x00\x00\x43\x00\x00\x00\x00\x00\x00\x00\x80\x00\
@@ -89,6 +106,7 @@ const PREVIOUS: [u8; 67] =
 struct Case<'a> {
     input: &'a [u8],
     log: &'a [u8],
+    schema: &'a [u8],
     input_fails: bool,
     fetch_fails: bool,
     feed: &'a [FeedAnswer],
@@ -102,6 +120,7 @@ struct Case<'a> {
 const CASE: Case<'static> = Case {
     input: &REQUEST,
     log: &LOG,
+    schema: b"",
     input_fails: false,
     fetch_fails: false,
     feed: &[],
@@ -121,7 +140,7 @@ fn tablets_of(alloc: Global, case: &Case<'_>) -> Result<MemTablets, AllocError> 
     }
     let mut scripts = Vec::new(alloc);
     scripts.push(Vec::from_slice(alloc, case.feed)?)?;
-    tablets.add(name, case.log, b"", scripts)?;
+    tablets.add(name, case.log, case.schema, scripts)?;
     tablets.fails(alloc, &[case.fetch_fails], &[])?;
     Ok(tablets)
 }
@@ -287,19 +306,41 @@ struct Logs {
     far: Vec<u8>,
     bad: Vec<u8>,
     plain: Vec<u8>,
+    checksummed: Vec<u8>,
+    rows: Vec<u8>,
+    unmapped: Vec<u8>,
     beside: Vec<u8>,
     transaction: Vec<u8>,
+}
+
+/// A log with a transaction that changes rows by this event.
+fn changing(alloc: Global, event: &[&[u8]]) -> Result<Vec<u8>, AllocError> {
+    let event = joined(alloc, event)?;
+    joined(
+        alloc,
+        &[
+            &LOG[..FRONT],
+            &TRANSACTION[..END],
+            &TABLE_MAP,
+            &event,
+            &TRANSACTION[END..],
+        ],
+    )
 }
 
 fn make_logs(alloc: Global) -> Result<Logs, AllocError> {
     let head = [0, 0, 0, 0, 2, 1, 0, 0, 0, 18, 0, 0, 0, 0, 0, 0, 0, 0, 0];
     let unflagged: [&[u8]; 4] = [&LOG[..85], &PREVIOUS[..17], &[0], &PREVIOUS[18..]];
+    let unmapped: [&[u8]; 3] = [&ROWS[..19], &[8], &ROWS[20..]];
     Ok(Logs {
         purged: joined(alloc, &[&LOG[..85], &PREVIOUS])?,
         unflagged: joined(alloc, &unflagged)?,
         far: joined(alloc, &[&LOG[..148], &[0x88, 0x13], &LOG[150..FIRST]])?,
         bad: joined(alloc, &[&LOG[..FIRST], &head])?,
         plain: joined(alloc, &[&LOG[..FRONT], &TRANSACTION])?,
+        checksummed: joined(alloc, &[&LOG[..80], &[1], &LOG[81..]])?,
+        rows: changing(alloc, &[&ROWS])?,
+        unmapped: changing(alloc, &unmapped)?,
         beside: joined(alloc, &[&BESIDE_OTHERS, &FRAMES[76..104]])?,
         transaction: joined(alloc, &[&[0, 0, 0, 100], &BEGIN, &FRAMES[4..76], &COMMIT])?,
     })
@@ -431,13 +472,71 @@ fn streams<'a>(requests: &'a Requests, logs: &'a Logs) -> [Case<'a>; 21] {
     ]
 }
 
+/// Rows are read under the schema text of their shard, and aren't sent yet.
+fn changes<'a>(requests: &'a Requests, logs: &'a Logs) -> [Case<'a>; 7] {
+    [
+        // what is wrong with a schema text, or with the front of a log
+        Case {
+            schema: b"column id int",
+            number: 16,
+            line: "bad schema c/0 line 1",
+            ..CASE
+        },
+        Case {
+            log: &logs.checksummed,
+            number: 6,
+            line: "bad log c/0 at 4: checksummed",
+            ..CASE
+        },
+        // a transaction that changes rows, where it is due or may be
+        Case {
+            log: &logs.rows,
+            schema: TABLE,
+            number: 6,
+            line: "bad log c/0 at 112: not built",
+            ..CASE
+        },
+        Case {
+            input: &requests.first,
+            log: &logs.rows,
+            schema: TABLE,
+            ..CASE
+        },
+        Case {
+            input: &requests.current,
+            log: &logs.rows,
+            schema: TABLE,
+            number: 6,
+            line: "bad log c/0 at 112: not built",
+            ..CASE
+        },
+        // rows of a table that no table map tells
+        Case {
+            log: &logs.unmapped,
+            schema: TABLE,
+            number: 6,
+            line: "bad log c/0 at 241: unknown table id 8",
+            ..CASE
+        },
+        Case {
+            input: &requests.current,
+            log: &logs.unmapped,
+            schema: TABLE,
+            number: 6,
+            line: "bad log c/0 at 241: unknown table id 8",
+            ..CASE
+        },
+    ]
+}
+
 #[test]
 fn a_shard_is_streamed_or_the_reason_is_told(rt: HostRuntime) -> Result<(), AllocError> {
     let alloc = rt.alloc();
     let words = stream_words(alloc)?;
     let requests = make_requests(alloc)?;
     let logs = make_logs(alloc)?;
-    compare(&rt, alloc, &words, &streams(&requests, &logs))
+    compare(&rt, alloc, &words, &streams(&requests, &logs))?;
+    compare(&rt, alloc, &words, &changes(&requests, &logs))
 }
 
 #[test]

@@ -1,4 +1,4 @@
 pub mod WordLemmas
 pub mod Lines
-pub mod Walk
-pub mod Built
+pub mod Journals
+pub mod WalkLemmas

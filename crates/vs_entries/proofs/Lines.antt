@@ -1,15 +1,32 @@
 -- What the lines of a log's table come to where a reader stands.
-use Rattle.std.proofs.Common.{◌≡◌, ◌+◌, ℕ, List, refl}
-use Rattle.std.specs.Prelude.{Err}
+use Rattle.std.proofs.Common.{◌≡◌, ◌+◌, ◌++◌, ℕ, List, map, refl}
+use Rattle.vs_base.specs.declared.change.Change.{Change}
+use Rattle.vs_gtid.specs.declared.Work.TheVariants.{Rows}
+use Rattle.vs_log.specs.declared.state.Counted.TheVariants.{Changed}
+use Rattle.std.specs.Prelude.{◌⊎◌, Result, Ok, Err}
+use Rattle.std.proofs.Common.{ap, subst, sym, ◌∙◌}
+use Rattle.vs_base.specs.declared.Gtid.{Gtid}
+use Rattle.vs_rows.specs.Rows.{rows_meant}
+use Rattle.vs_log.specs.declared.state.Place.TheVariants as place
+use Rattle.vs_base.specs.declared.Why.{Why}
+use Rattle.vs_rows.specs.declared.refusal.RowRefusal.{RowRefusal}
+use Rattle.vs_rows.specs.declared.refusal.RowRefusal.TheVariants as row
+use Rattle.vs_rows.specs.Tables.{Tables, done, with_map}
+use Rattle.vs_entries.specs.declared.progress.Progress.{Progress}
+use Rattle.vs_entries.specs.declared.refusal.Refusal.{Refusal}
+use Rattle.vs_entries.specs.declared.refusal.Refusal.TheVariants.{Wrong}
+use Rattle.vs_entries.specs.Reading.{Moves, refusal_of, with_rows, with_table_map}
 use Rattle.vs_base.specs.declared.Why.TheVariants.{NoFormat}
 use Rattle.vs_log.specs.declared.event.Sort.{Sort}
 use Rattle.vs_log.specs.declared.event.Sort.TheVariants.{AnonymousEvent, PassedOver, FormatEvent, PreviousEvent, GtidEvent, QueryEvent, XidEvent, MapEvent, RowsEvent, ForeignEvent}
 use Rattle.vs_log.specs.declared.state.Place.{Place}
 use Rattle.vs_log.specs.declared.state.Place.TheVariants.{Front}
 use Rattle.vs_log.specs.declared.state.State.{State}
-use Rattle.vs_binlog.specs.Heads.{Event}
-use Rattle.vs_log.specs.Table.{sum_with, size, line}
-use Rattle.vs_entries.specs.Rules.{rules_of}
+use Rattle.vs_binlog.specs.Heads.{Event, body_of, kind_of, length_of}
+use Rattle.vs_schema.specs.declared.schema.Schema.{Schema}
+use Rattle.vs_log.specs.Table.{more_work, told, sum_with, size, line, ◌>>=◌}
+use Rattle.vs_log.proofs.Complete.{rows_work}
+use Rattle.vs_entries.specs.Rules.{counted_by, or_why, rules_of, why_of}
 
 -- what is not passed over counts with the entry that is open
 pub sum_with_counted : (place : Place) (sort : Sort) (n : ℕ) → (sort ≡ PassedOver → ⊥) → sum_with place sort n ≡ size place + n
@@ -25,14 +42,56 @@ sum_with_counted place RowsEvent n counted = refl
 sum_with_counted place ForeignEvent n counted = refl
 
 -- before the format description nothing else is taken
-pub line_front_other : (keyspace : List ℕ) (s : State) (e : Event) (sort : Sort) → (sort ≡ FormatEvent → ⊥) → line (rules_of keyspace) s e Front sort ≡ Err NoFormat
-line_front_other keyspace s e AnonymousEvent other = refl
-line_front_other keyspace s e PassedOver other = refl
-line_front_other keyspace s e FormatEvent other = absurd (other refl)
-line_front_other keyspace s e PreviousEvent other = refl
-line_front_other keyspace s e GtidEvent other = refl
-line_front_other keyspace s e QueryEvent other = refl
-line_front_other keyspace s e XidEvent other = refl
-line_front_other keyspace s e MapEvent other = refl
-line_front_other keyspace s e RowsEvent other = refl
-line_front_other keyspace s e ForeignEvent other = refl
+pub line_front_other : (keyspace : List ℕ) (schema : Schema) (s : State) (e : Event) (sort : Sort) → (sort ≡ FormatEvent → ⊥) → line (rules_of keyspace schema) s e Front sort ≡ Err NoFormat
+line_front_other keyspace schema s e AnonymousEvent other = refl
+line_front_other keyspace schema s e PassedOver other = refl
+line_front_other keyspace schema s e FormatEvent other = absurd (other refl)
+line_front_other keyspace schema s e PreviousEvent other = refl
+line_front_other keyspace schema s e GtidEvent other = refl
+line_front_other keyspace schema s e QueryEvent other = refl
+line_front_other keyspace schema s e XidEvent other = refl
+line_front_other keyspace schema s e MapEvent other = refl
+line_front_other keyspace schema s e RowsEvent other = refl
+line_front_other keyspace schema s e ForeignEvent other = refl
+
+-- a table map that isn't taken
+abbrev Refused : RowRefusal → Result Tables RowRefusal → Type 0
+Refused refusal meant = (◌≡◌ {A = Result (Unit {0}) RowRefusal} (Err refusal) (Err row.Memory)) ⊎ (Err refusal ≡ done meant)
+
+refused_so : (refusal : RowRefusal) (meant : Result Tables RowRefusal) → (refusal ≡ row.Memory → ⊥) → Refused refusal meant → meant ≡ Err refusal
+refused_so refusal (Ok tables) other (◌⊎◌.inl h) = absurd (other (cc))
+refused_so refusal (Ok tables) other (◌⊎◌.inr h) = cc
+refused_so refusal (Err meant) other (◌⊎◌.inl h) = absurd (other (cc))
+refused_so refusal (Err meant) other (◌⊎◌.inr h) = cc
+
+pub map_refused : (keyspace : List ℕ) (schema : Schema) (s : State) (e : Event) (g : Gtid) (bytes : ℕ) (maps : Tables) (changes : List Change) (refusal : RowRefusal) (told : Refusal) (old new : Progress) →
+    new ≡ old → told ≡ refusal_of 19 refusal → Refused refusal (with_map keyspace schema maps (body_of e)) → Moves (Err told) old new (with_table_map keyspace schema s e g bytes maps changes)
+map_refused keyspace schema s e g bytes maps changes refusal told old new same is h =
+    subst (λ z. Moves (Err z) old new (with_table_map keyspace schema s e g bytes maps changes)) (sym is) (go refusal h)
+  where
+    f : Tables → Result State Why
+    f more = Ok (record s { place = place.Inside g (bytes + length_of e) more (Rows changes) })
+
+    wrong : (refusal : RowRefusal) → (refusal ≡ row.Memory → ⊥) → Refused refusal (with_map keyspace schema maps (body_of e)) →
+        Moves (Err (Wrong (why_of 19 refusal))) old new (with_table_map keyspace schema s e g bytes maps changes)
+    wrong refusal other h = (ap (λ m. or_why 19 m >>= f) (refused_so refusal (with_map keyspace schema maps (body_of e)) other h), same)
+
+    go : (refusal : RowRefusal) → Refused refusal (with_map keyspace schema maps (body_of e)) → Moves (Err (refusal_of 19 refusal)) old new (with_table_map keyspace schema s e g bytes maps changes)
+    go row.BadBody h = wrong row.BadBody (λ k. cc) h
+    go (row.UnknownTableId id) h = wrong (row.UnknownTableId id) (λ k. cc) h
+    go (row.UnknownTable table) h = wrong (row.UnknownTable table) (λ k. cc) h
+    go (row.Disagrees table) h = wrong (row.Disagrees table) (λ k. cc) h
+    go (row.NotFullImage table) h = wrong (row.NotFullImage table) (λ k. cc) h
+    go (row.BadRow table) h = wrong (row.BadRow table) (λ k. cc) h
+    go row.Memory h = same
+
+-- a rows event whose changes were added
+pub rows_taken : (keyspace : List ℕ) (s : State) (e : Event) (g : Gtid) (bytes : ℕ) (maps : Tables) (changes more now : List Change) (kind size : ℕ) →
+    kind ≡ kind_of e → size ≡ length_of e → counted_by keyspace kind (rows_meant maps kind (body_of e)) ≡ Ok (map Changed more) → now ≡ changes ++ more →
+    with_rows keyspace s e g bytes maps changes ≡ Ok (record s { place = place.Inside g (bytes + size) maps (Rows now) })
+rows_taken keyspace s e g bytes maps changes more now kind size is long said added =
+    ap (λ k. counted_by keyspace k (rows_meant maps k (body_of e)) >>= λ counted. told s e g bytes maps (more_work (Rows changes) counted)) (sym is)
+    ∙ ap (λ r. r >>= λ counted. told s e g bytes maps (more_work (Rows changes) counted)) said
+    ∙ ap (λ w. told s e g bytes maps w) (rows_work changes more)
+    ∙ ap (λ z. Ok (record s { place = place.Inside g (bytes + length_of e) maps (Rows z) })) (sym added)
+    ∙ ap (λ z. Ok (record s { place = place.Inside g (bytes + z) maps (Rows now) })) (sym long)

@@ -1,2 +1,4 @@
 pub mod Rules
 pub mod Reading
+pub mod Pieces
+pub mod Walks

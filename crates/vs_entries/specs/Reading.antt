@@ -1,37 +1,33 @@
--- How a reader stands for a state of a log's table, and what its answers say of the log's meaning.
-use Rattle.std.specs.Prelude.{◌≡◌, ◌≤◌, ◌<◌, ◌+◌, ℕ, nat_lt, true, if◌then◌else◌, List, [], length, take, drop, Option, Some, None, Result, Ok, Err}
+-- How what a reader has taken stands for a state of a log's table, and what its answers say.
+use Rattle.std.specs.Prelude.{◌≡◌, ◌≤◌, ◌+◌, ℕ, nat_lt, Bool, true, false, is_some, if◌then◌else◌, List, [], ◌∷◌, length, map, take, Option, Some, None, Result, Ok, Err}
+use Rattle.vs_base.specs.declared.change.Change.{Change}
 use Rattle.vs_base.specs.declared.Gtid.{Gtid}
 use Rattle.vs_base.specs.declared.Why.{Why}
 use Rattle.vs_base.specs.declared.Why.TheVariants.{BadEvent}
+use Rattle.vs_gtid.specs.declared.Entry.{Entry}
 use Rattle.vs_gtid.specs.declared.Work.TheVariants.{Rows}
-use Rattle.vs_gtid.specs.Logs.{Log}
+use Rattle.vs_gtid.specs.Block.{block_of}
+use Rattle.vs_schema.specs.declared.schema.Schema.{Schema}
+use Rattle.vs_rows.specs.declared.refusal.RowRefusal.{RowRefusal}
+use Rattle.vs_rows.specs.declared.refusal.RowRefusal.TheVariants as row
+use Rattle.vs_rows.specs.Tables.{Tables, with_map}
+use Rattle.vs_rows.specs.Rows.{rows_meant}
+use Rattle.vs_log.specs.declared.state.Counted.{Counted}
+use Rattle.vs_log.specs.declared.state.Counted.TheVariants.{Changed}
 use Rattle.vs_log.specs.declared.state.Place.{Place}
 use Rattle.vs_log.specs.declared.state.Place.TheVariants as place
 use Rattle.vs_log.specs.declared.state.State.{State}
-use Rattle.vs_binlog.specs.Heads.{Event, body_of, length_of}
+use Rattle.vs_binlog.specs.Heads.{Event, body_of, kind_of, length_of}
 use Rattle.vs_log.specs.Events.{is_held, last_place}
-use Rattle.vs_log.specs.Table.{Rules, step, with_base, ended, new_gtid, named, first_query, later_query, ◌>>=◌}
+use Rattle.vs_log.specs.Table.{Rules, step, with_base, ended, new_gtid, named, first_query, later_query, more_work, told, ◌>>=◌}
 use Rattle.vs_log.specs.Queries.{statement_of}
-use Rattle.vs_gtid.specs.Block.{block_of}
-use Rattle.vs_entries.specs.Rules.{base_of}
 use Rattle.vs_log.specs.Meaning.{head_refusal}
-use Rattle.vs_entries.specs.declared.log.LogFault.{LogFault}
-use Rattle.vs_entries.specs.declared.log.LogRead.{LogRead}
-use Rattle.vs_entries.specs.declared.reader.Reader.{Reader}
-use Rattle.vs_entries.specs.declared.reader.Standing.{Standing}
-use Rattle.vs_entries.specs.declared.reader.Standing.TheVariants.{Front, Between, Named, Inside}
-use Rattle.vs_entries.specs.declared.reader.Turn.{Turn}
-use Rattle.vs_entries.specs.declared.reader.Turn.TheVariants.{Went, Ended}
+use Rattle.vs_entries.specs.Rules.{base_of, counted_by, or_why, rules_of, why_of}
+use Rattle.vs_entries.specs.declared.progress.Progress.{Progress}
+use Rattle.vs_entries.specs.declared.standing.Standing.{Standing}
+use Rattle.vs_entries.specs.declared.standing.Standing.TheVariants.{Front, Between, Named, Inside}
 use Rattle.vs_entries.specs.declared.refusal.Refusal.{Refusal}
 use Rattle.vs_entries.specs.declared.refusal.Refusal.TheVariants.{Wrong, Memory}
-
-abbrev pub fault_of : Option LogFault → Option (ℕ × Why)
-fault_of None = None
-fault_of (Some fault) = Some (fault.offset, fault.why)
-
--- a log as it is read
-abbrev pub read_as : LogRead → Log
-read_as read = record { base = read.base; entries = read.entries; fault = fault_of read.fault }
 
 -- the answer is what is meant, unless memory ran out
 abbrev pub Answers : {A : Type 0} → Result A Refusal → Result A Why → Type 0
@@ -39,21 +35,62 @@ Answers (Ok x) meant = meant ≡ Ok x
 Answers (Err (Wrong why)) meant = meant ≡ Err why
 Answers (Err Memory) meant = Unit {0}
 
-abbrev pub place_of : Standing → Place
-place_of Front = place.Front
-place_of (Between first) = place.Between first
-place_of (Named gtid bytes) = place.Named gtid bytes
-place_of (Inside gtid bytes) = place.Inside gtid bytes [] (Rows [])
+-- what is told of a body that isn't taken
+abbrev pub refusal_of : ℕ → RowRefusal → Refusal
+refusal_of kind row.Memory = Memory
+refusal_of kind refusal = Wrong (why_of kind refusal)
 
--- where the reader stands, as a state of the table
-abbrev pub state_of : Reader → State
-state_of reader = record { base = reader.base; entries = reader.entries; known = reader.known; place = place_of reader.standing }
+-- the changes count, and nothing else does; unless memory ran out
+abbrev pub Counts : Result (List Change) Refusal → Result (List Counted) Why → Type 0
+Counts (Ok changes) meant = meant ≡ Ok (map Changed changes)
+Counts (Err (Wrong why)) meant = meant ≡ Err why
+Counts (Err Memory) meant = Unit {0}
 
--- the reader took what it was meant to, or stayed as it was; unless memory ran out
-abbrev pub Takes : Result (Unit {0}) Refusal → Reader → Reader → Result State Why → Type 0
-Takes (Ok x) old new meant = meant ≡ Ok (state_of new)
+-- the place of a log, by the tables that are known and the changes so far
+abbrev pub place_of : Standing → Tables → List Change → Place
+place_of Front maps changes = place.Front
+place_of (Between first) maps changes = place.Between first
+place_of (Named gtid bytes) maps changes = place.Named gtid bytes
+place_of (Inside gtid bytes) maps changes = place.Inside gtid bytes maps (Rows changes)
+
+-- the state of the table, without the entries that were given
+abbrev pub state_of : Progress → State
+state_of p = record { base = p.base; entries = []; known = p.known; place = place_of p.standing p.maps p.changes }
+
+abbrev pub with_entries : List Entry → State → State
+with_entries entries s = record s { entries = entries }
+
+-- what was meant to be taken was, and perhaps an entry ended; or all stayed as it was
+abbrev pub Takes : Result (Option Entry) Refusal → Progress → Progress → Result State Why → Type 0
+Takes (Ok None) old new meant = meant ≡ Ok (state_of new)
+Takes (Ok (Some e)) old new meant = meant ≡ Ok (with_entries (e ∷ []) (state_of new))
 Takes (Err (Wrong why)) old new meant = (meant ≡ Err why) × (new ≡ old)
-Takes (Err Memory) old new meant = Unit {0}
+Takes (Err Memory) old new meant = new ≡ old
+
+-- the same of an event that ends no entry
+abbrev pub Moves : Result (Unit {0}) Refusal → Progress → Progress → Result State Why → Type 0
+Moves (Ok x) old new meant = meant ≡ Ok (state_of new)
+Moves (Err (Wrong why)) old new meant = (meant ≡ Err why) × (new ≡ old)
+Moves (Err Memory) old new meant = new ≡ old
+
+-- a schema without tables; the rules of no keyspace, which serve where no rules count
+abbrev pub no_schema : Schema
+no_schema = record { tables = []; skipped = [] }
+
+abbrev pub any_rules : Rules
+any_rules = rules_of [] no_schema
+
+-- no entry is open, and no base is known
+abbrev pub is_early : Standing → Bool
+is_early Front = true
+is_early (Between first) = first
+is_early (Named gtid bytes) = false
+is_early (Inside gtid bytes) = false
+
+-- whether something is wrong with the event there, and it isn't the format description
+abbrev pub is_refused : Standing → Option Why → Bool
+is_refused Front why = false
+is_refused standing why = is_some why
 
 -- the log with the base that a PREVIOUS_GTIDS event tells
 abbrev pub with_previous : State → Event → Result State Why
@@ -67,13 +104,23 @@ with_gtid s e = new_gtid s.known (body_of e) >>= λ g. Ok (named s e g)
 abbrev pub with_query : List ℕ → State → Event → Gtid → ℕ → Result State Why
 with_query keyspace s e g bytes = statement_of keyspace (body_of e) >>= first_query s e g bytes
 
--- the log with a query inside a transaction that has changed no row
-abbrev pub with_later_query : List ℕ → State → Event → Gtid → ℕ → Result State Why
-with_later_query keyspace s e g bytes = statement_of keyspace (body_of e) >>= later_query s e g bytes [] (Rows [])
+-- the log with a query inside a transaction of these tables and changes
+abbrev pub with_later_query : List ℕ → State → Event → Gtid → ℕ → Tables → List Change → Result State Why
+with_later_query keyspace s e g bytes maps changes = statement_of keyspace (body_of e) >>= later_query s e g bytes maps (Rows changes)
 
 -- the log with an XID event, which ends such a transaction
-abbrev pub with_xid : State → Event → Gtid → Result State Why
-with_xid s e g = if nat_lt (length (body_of e)) 8 then Err (BadEvent 16) else Ok (ended s e g (Rows []))
+abbrev pub with_xid : State → Event → Gtid → List Change → Result State Why
+with_xid s e g changes = if nat_lt (length (body_of e)) 8 then Err (BadEvent 16) else Ok (ended s e g (Rows changes))
+
+-- the log with a table map in it
+abbrev pub with_table_map : List ℕ → Schema → State → Event → Gtid → ℕ → Tables → List Change → Result State Why
+with_table_map keyspace schema s e g bytes maps changes =
+    or_why 19 (with_map keyspace schema maps (body_of e)) >>= λ more. Ok (record s { place = place.Inside g (bytes + length_of e) more (Rows changes) })
+
+-- the log with a rows event in it
+abbrev pub with_rows : List ℕ → State → Event → Gtid → ℕ → Tables → List Change → Result State Why
+with_rows keyspace s e g bytes maps changes =
+    counted_by keyspace (kind_of e) (rows_meant maps (kind_of e) (body_of e)) >>= λ counted. told s e g bytes maps (more_work (Rows changes) counted)
 
 -- the event stands whole at the front of the rest, which begins at this place
 pub record IsFrontEvent (at : ℕ) (rest e : List ℕ) : Type 0 where
@@ -93,10 +140,3 @@ next_state rules at s rest =
       | Err why ↦ Err (Some why)
     ])
     else Err (head_refusal at s.place rest)
-
--- One turn of the reader over the bytes of a log from a place on: it goes on at a later place, or the log ends.
-abbrev pub Turned : Rules → List ℕ → ℕ → Reader → Reader → Turn → Type 0
-Turned rules log at old new (Went place) =
-    (next_state rules at (state_of old) (drop at log) ≡ Ok (state_of new))
-    × (place ≡ at + length_of (drop at log)) × (at < place) × (place ≤ length log) × (place ≤ last_place)
-Turned rules log at old new (Ended why) = (next_state rules at (state_of old) (drop at log) ≡ Err why) × (new ≡ old)

@@ -1,8 +1,18 @@
 ghost use Rattle.std.specs.Prelude.{◌≡◌, ◌≤◌, length};
+ghost use Rattle.vs_binlog.specs.Heads.{body_of};
 ghost use Rattle.vs_log.specs.Events.{sort, sort_of};
 
-use vs_binlog::read_head;
+use vs_binlog::{HEAD, read_head};
 use vs_log::Sort;
+
+/// What stands behind the head of an event.
+#[tactic(auto, unfolding(vs_binlog::specs::Heads::body_of))]
+pub fn body_of(event: &[u8]) -> &[u8]
+    requires { 19 ≤ length event.now }
+    ensures { result.now ≡ body_of event.now }
+{
+    &event[HEAD..]
+}
 
 /// What the event is to a log.
 #[tactic(auto, unfolding(vs_log::specs::Events::sort_of))]

@@ -1,18 +1,25 @@
-//! Reads the bytes of a shard's log: its base, its transactions, and what is wrong with it.
+//! Reads the bytes of a shard's log, however they come: its base, its transactions, and what is wrong
+//! with it.
 //!
-//! A log is a binlog file of MySQL, version 4. This release reads single statements
-//! and transactions that change no row; a table map or a rows event is refused.
+//! A log is a binlog file of MySQL, version 4. A journal of the keyspace is refused as not built, where
+//! its rows stand.
 #![tactic(auto)]
 
 mod body;
 mod event;
+mod front;
 mod laws;
-mod log;
+mod progress;
 mod query;
 mod reader;
 mod refusal;
+mod row;
+mod standing;
 #[cfg(test)]
 mod tests;
+mod took;
+mod walk;
 
-pub use laws::law_built;
-pub use log::{LogFault, LogRead, read_log};
+pub use laws::law_no_journals;
+pub use reader::Reader;
+pub use took::{LogRefusal, Took};

@@ -8,7 +8,7 @@ use crate::refusal::Refusal;
 use std::alloc::Global;
 use vs_base::{OutOfMemory, Text, Why};
 use vs_binlog::{first_word, is_same_word, read_query};
-use vs_gtid::Work;
+use vs_journal::Work;
 use vs_log::Statement;
 
 /// What the body of a query event says in the log of a shard of the keyspace.
@@ -66,7 +66,7 @@ fn changes_schemas(word: &[u8]) -> bool
 }
 
 /// Whether the schema is `vt_` and the keyspace.
-fn is_schema_of(schema: &[u8], keyspace: &[u8]) -> bool
+pub fn is_schema_of(schema: &[u8], keyspace: &[u8]) -> bool
     ensures { result ≡ pointwise nat_eq schema.now (schema_of keyspace.now) }
 {
     match schema {

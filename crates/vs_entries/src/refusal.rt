@@ -1,7 +1,7 @@
 use vs_base::{OutOfMemory, Why};
 
 /// Why an event was not taken: what is wrong with it, or that memory ran out.
-#[derive(Debug, Clone, Copy)]
+#[derive(Debug, Drop)]
 pub enum Refusal {
     Wrong(Why),
     Memory,

@@ -16,7 +16,7 @@ use Rattle.vs_log.specs.declared.state.Counted.TheVariants.{Changed}
 use Rattle.vs_log.specs.declared.state.Place.{Place}
 use Rattle.vs_log.specs.declared.state.Place.TheVariants.{Front, Between, Named, Inside}
 use Rattle.vs_log.specs.declared.state.State.{State}
-use Rattle.vs_binlog.specs.Heads.{Event, length_of, body_of}
+use Rattle.vs_binlog.specs.Heads.{Event, length_of}
 use Rattle.vs_log.specs.Events.{limit}
 use Rattle.vs_log.specs.Table.{Rules, one_more, more_work, step}
 use Rattle.vs_log.specs.Meaning.{front}
@@ -24,6 +24,7 @@ use Rattle.vs_log.specs.Productions.{is_counted, total, in_turn, is_nil, is_firs
 use Rattle.vs_log.proofs.Moves.Moves.{formatted, based, names, singles, begins, saves, maps_on, tells, ends}
 use Rattle.vs_log.proofs.Shapes.{total-append, no_entry, front_all}
 use Rattle.vs_log.proofs.Takes.{walk, walk_one, walk-append, takes_counted, filter_walk}
+use Rattle.vs_rows.specs.Tables.{Tables}
 
 abbrev standing : Position → List Entry → Position → Place → State
 standing base entries known place = record { base = base; entries = entries; known = known; place = place }
@@ -40,7 +41,7 @@ work_parts work (c ∷ told) more next h = go (one_more work c) refl h (λ w. wo
       let m = k x g in
       (m.0, ap (λ r. elim r [ None ↦ None | Some y ↦ more_work y told ]) e ∙ m.1, m.2)
 
-rows_work : (before changes : List Change) → more_work (Rows before) (map Changed changes) ≡ Some (Rows (before ++ changes))
+pub rows_work : (before changes : List Change) → more_work (Rows before) (map Changed changes) ≡ Some (Rows (before ++ changes))
 rows_work before [] = ap (λ z. Some (Rows z)) (sym (append-nil before))
 rows_work before (c ∷ changes) = rows_work (before ++ c ∷ []) changes ∙ ap (λ z. Some (Rows z)) (append_assoc before (c ∷ []) changes)
 
@@ -50,7 +51,7 @@ comes_work counted (Journal j) w = ap (λ z. more_work (Rows []) z) w
 comes_work counted (Ddl text) w = elim w [ ]
 comes_work counted Other w = elim w [ ]
 
-walk_middle : (rules : Rules) (base known : Position) (entries : List Entry) (g : Gtid) (bytes : ℕ) (before maps : List (List ℕ)) (middle : List Event) (counted : List Counted) (work next : Work) →
+walk_middle : (rules : Rules) (base known : Position) (entries : List Entry) (g : Gtid) (bytes : ℕ) (before maps : Tables) (middle : List Event) (counted : List Counted) (work next : Work) →
     IsMiddle rules before middle counted maps → more_work work counted ≡ Some next → bytes + total middle ≤ limit →
     walk rules (standing base entries known (Inside g bytes before work)) middle ≡ Ok (standing base entries known (Inside g (bytes + total middle) maps next))
 walk_middle rules base known entries g bytes before maps [] counted work next m w fits =
@@ -68,8 +69,8 @@ walk_middle rules base known entries g bytes before maps (e ∷ middle) counted 
     = ap (λ z. Ok (standing base entries known (Inside g z maps next))) sum in
     elim m [
       | ◌⊎◌.inl a ↦
-          walk_one rules s _ e middle (takes_counted rules s e _ fits_e (maps_on g bytes before work a.0))
-          ∙ walk_middle rules base known entries g (bytes + length_of e) (before ++ body_of e ∷ []) maps middle counted work next a.1 w fits_rest ∙ last
+          walk_one rules s _ e middle (takes_counted rules s e _ fits_e (maps_on g bytes before work a.0 a.1))
+          ∙ walk_middle rules base known entries g (bytes + length_of e) a.0 maps middle counted work next a.2 w fits_rest ∙ last
       | ◌⊎◌.inr b ↦ elim b [
         | ◌⊎◌.inl t ↦ (
             let p = work_parts work t.0 t.1 next (ap (λ z. more_work work z) (sym t.3) ∙ w) in
@@ -86,7 +87,7 @@ step_named : (rules : Rules) (base known : Position) (entries : List Entry) (fir
     step rules (standing base entries known (Between first)) e ≡ Ok (standing base entries (added known g) (Named g (length_of e)))
 step_named rules base known entries first e g is new fits = takes_counted rules (standing base entries known (Between first)) e _ (omega arith) (names first g is new)
 
-walk_unended : (rules : Rules) (base known : Position) (entries : List Entry) (first : Bool) (opened : List Event) (g : Gtid) (maps : List (List ℕ)) (work : Work) →
+walk_unended : (rules : Rules) (base known : Position) (entries : List Entry) (first : Bool) (opened : List Event) (g : Gtid) (maps : Tables) (work : Work) →
     IsUnended rules opened g maps work → IsNew known g → total opened ≤ limit →
     walk rules (standing base entries known (Between first)) opened ≡ Ok (standing base entries (added known g) (Inside g (total opened) maps work))
 walk_unended rules base known entries first opened g maps work u new fits =

@@ -24,7 +24,7 @@ base = record { uuid = uuid 1; first = 1; last = 5 } ∷ []
 
 -- each query stands alone, and each block of GTIDs is the base
 abbrev rules : Rules
-rules = record { statement = λ body. Ok (Single Other); block = λ body. Ok base; map = λ body. None; rows = λ maps kind body. Ok [] }
+rules = record { statement = λ body. Ok (Single Other); block = λ body. Ok base; map = λ maps body. Ok maps; rows = λ maps kind body. Ok [] }
 
 -- each query begins
 abbrev begun_rules : Rules

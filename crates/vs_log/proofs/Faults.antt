@@ -90,7 +90,7 @@ head_stays rules s at rest more why h = go (is_held at (rest ++ more)) refl wher
   go true k = ◌⊎◌.inl (wrong_whole rules s at (rest ++ more) why (held at (rest ++ more) k) same)
   go false k = ◌⊎◌.inr (k, same)
 
-refusal_stays : (rules : Rules) (s : State) (at : ℕ) (rest more : List ℕ) (why : Why) → Refuses rules s at rest (Some why) → Refuses rules s at (rest ++ more) (Some why)
+pub refusal_stays : (rules : Rules) (s : State) (at : ℕ) (rest more : List ℕ) (why : Why) → Refuses rules s at rest (Some why) → Refuses rules s at (rest ++ more) (Some why)
 refusal_stays rules s at rest more why (◌⊎◌.inl w) = ◌⊎◌.inl (record {
   event = w.event;
   more = w.more ++ more;

@@ -42,7 +42,7 @@ moves_extend rules s e place next (names first g is new) = same_entries s.entrie
 moves_extend rules s e place next (singles g bytes statement work says one) = (_, refl)
 moves_extend rules s e place next (begins g bytes says) = same_entries s.entries
 moves_extend rules s e place next (saves g bytes maps work says) = same_entries s.entries
-moves_extend rules s e place next (maps_on g bytes maps work is) = same_entries s.entries
+moves_extend rules s e place next (maps_on g bytes maps work more is) = same_entries s.entries
 moves_extend rules s e place next (tells g bytes maps work counted more is t) = same_entries s.entries
 moves_extend rules s e place next (ends g bytes maps work end) = (_, refl)
 
@@ -117,3 +117,10 @@ whole_log rules bytes base es w = sym (only rules bytes _ (◌⊎◌.inl (record
   refused = (refl, refl);
   is = refl;
 })))
+
+-- the entries of events that begin the log come first
+pub entries_behind : (rules : Rules) (bytes : List ℕ) (events : List Event) (rest : List ℕ) (s : State) → IsCut bytes events rest → Begins rules events s → Extends s.entries (log_meant rules bytes).entries
+entries_behind rules bytes events rest s c b =
+    let k = log_behind rules bytes events rest s c b in
+    let e = follow_extends k.0 rules (4 + length (joined events)) s rest in
+    (e.0, ap (λ z. z.entries) k.2 ∙ e.1)

@@ -11,4 +11,8 @@ pub mod Only
 pub mod Growth
 pub mod Longest
 pub mod Faults
+pub mod Bases
+pub mod Names
+pub mod Past
+pub mod Places
 mod Examples

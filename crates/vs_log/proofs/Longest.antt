@@ -67,7 +67,7 @@ kept rules s e place next b (names first g is new) = (refl, refl)
 kept rules s e place next b (singles g bytes statement work says one) = absurd (cc)
 kept rules s e place next b (begins g bytes says) = (refl, refl)
 kept rules s e place next b (saves g bytes maps work says) = (refl, refl)
-kept rules s e place next b (maps_on g bytes maps work is) = (refl, refl)
+kept rules s e place next b (maps_on g bytes maps work more is) = (refl, refl)
 kept rules s e place next b (tells g bytes maps work counted more is t) = (refl, refl)
 kept rules s e place next b (ends g bytes maps work end) = absurd (cc)
 

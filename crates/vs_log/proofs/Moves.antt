@@ -1,5 +1,5 @@
 -- The positive lines of the table: what an event may do where a log stands.
-use Rattle.std.proofs.Common.{◌≡◌, ◌≤◌, ◌+◌, ℕ, Bool, true, false, List, [], ◌∷◌, ◌++◌, length, nat_lt, if◌then◌else◌, Option, Some, None, Result, Ok, Err, refl, ap, subst, ◌∙◌}
+use Rattle.std.proofs.Common.{◌≡◌, ◌≤◌, ◌+◌, ℕ, Bool, true, false, List, [], length, nat_lt, if◌then◌else◌, Option, Some, None, Result, Ok, Err, refl, ap, subst, ◌∙◌}
 use Rattle.std.specs.Prelude.{◌⊎◌}
 use Rattle.std.proofs.lemmas.Bool.{ltb-false}
 use Rattle.vs_base.specs.declared.Gtid.{Gtid}
@@ -21,24 +21,25 @@ use Rattle.vs_binlog.specs.Heads.{Event, kind_of, length_of, body_of}
 use Rattle.vs_log.specs.Events.{sort_of, limit}
 use Rattle.vs_log.specs.Table.{Rules, ◌>>=◌, unless, format_refusal, gtid_in, single_work, more_work, bytes_with, ended, with_base, new_gtid, named, first_query, later_query, told, line, step}
 use Rattle.vs_log.specs.Productions.{IsFormat, IsGtid, Says, IsMap, Tells, Ends, IsNew}
+use Rattle.vs_rows.specs.Tables.{Tables}
 
 -- the state with the event's bytes in the open transaction
-abbrev pub inside : State → Event → Gtid → ℕ → List (List ℕ) → Work → State
+abbrev pub inside : State → Event → Gtid → ℕ → Tables → Work → State
 inside s e g bytes maps work = record s { place = Inside g (bytes + length_of e) maps work }
 
 pub data Moves (rules : Rules) (s : State) (e : Event) : Place → State → Type 0 where
   formatted : IsFormat e → Moves rules s e Front (record s { place = Between true })
   passed_between : (first : Bool) → sort_of e ≡ PassedOver → Moves rules s e (Between first) s
   passed_named : (g : Gtid) (bytes : ℕ) → sort_of e ≡ PassedOver → Moves rules s e (Named g bytes) s
-  passed_inside : (g : Gtid) (bytes : ℕ) (maps : List (List ℕ)) (work : Work) → sort_of e ≡ PassedOver → Moves rules s e (Inside g bytes maps work) s
+  passed_inside : (g : Gtid) (bytes : ℕ) (maps : Tables) (work : Work) → sort_of e ≡ PassedOver → Moves rules s e (Inside g bytes maps work) s
   based : (set : Position) → sort_of e ≡ PreviousEvent → rules.block (body_of e) ≡ Ok set → Moves rules s e (Between true) (with_base s set)
   names : (first : Bool) (g : Gtid) → IsGtid e g → IsNew s.known g → Moves rules s e (Between first) (named s e g)
   singles : (g : Gtid) (bytes : ℕ) (statement : Statement) (work : Work) → Says rules e statement → single_work statement ≡ Some work → Moves rules s e (Named g bytes) (ended s e g work)
   begins : (g : Gtid) (bytes : ℕ) → Says rules e Begin → Moves rules s e (Named g bytes) (inside s e g bytes [] (Rows []))
-  saves : (g : Gtid) (bytes : ℕ) (maps : List (List ℕ)) (work : Work) → Says rules e Savepoint → Moves rules s e (Inside g bytes maps work) (inside s e g bytes maps work)
-  maps_on : (g : Gtid) (bytes : ℕ) (maps : List (List ℕ)) (work : Work) → IsMap rules e → Moves rules s e (Inside g bytes maps work) (inside s e g bytes (maps ++ body_of e ∷ []) work)
-  tells : (g : Gtid) (bytes : ℕ) (maps : List (List ℕ)) (work : Work) (counted : List Counted) (more : Work) → Tells rules maps e counted → more_work work counted ≡ Some more → Moves rules s e (Inside g bytes maps work) (inside s e g bytes maps more)
-  ends : (g : Gtid) (bytes : ℕ) (maps : List (List ℕ)) (work : Work) → Ends rules e → Moves rules s e (Inside g bytes maps work) (ended s e g work)
+  saves : (g : Gtid) (bytes : ℕ) (maps : Tables) (work : Work) → Says rules e Savepoint → Moves rules s e (Inside g bytes maps work) (inside s e g bytes maps work)
+  maps_on : (g : Gtid) (bytes : ℕ) (maps : Tables) (work : Work) (more : Tables) → IsMap rules maps e more → Moves rules s e (Inside g bytes maps work) (inside s e g bytes more work)
+  tells : (g : Gtid) (bytes : ℕ) (maps : Tables) (work : Work) (counted : List Counted) (more : Work) → Tells rules maps e counted → more_work work counted ≡ Some more → Moves rules s e (Inside g bytes maps work) (inside s e g bytes maps more)
+  ends : (g : Gtid) (bytes : ℕ) (maps : Tables) (work : Work) → Ends rules e → Moves rules s e (Inside g bytes maps work) (ended s e g work)
 
 -- what a chain that is not refused went through
 pub chained : {A B : Type 0} (r : Result A Why) (f : A → Result B Why) (y : B) → (r >>= f) ≡ Ok y → (x : A) × (r ≡ Ok x) × (f x ≡ Ok y)
@@ -79,7 +80,7 @@ first_line rules s e next g bytes Savepoint k h = onto rules s e _ _ next (singl
 first_line rules s e next g bytes Xa k h = cc
 first_line rules s e next g bytes (Single work) k h = onto rules s e _ _ next (singles g bytes (Single work) work k refl) h
 
-later_line : (rules : Rules) (s : State) (e : Event) (next : State) (g : Gtid) (bytes : ℕ) (maps : List (List ℕ)) (work : Work) (said : Statement) → Says rules e said →
+later_line : (rules : Rules) (s : State) (e : Event) (next : State) (g : Gtid) (bytes : ℕ) (maps : Tables) (work : Work) (said : Statement) → Says rules e said →
     later_query s e g bytes maps work said ≡ Ok next → Moves rules s e (Inside g bytes maps work) next
 later_line rules s e next g bytes maps work Commit k h = onto rules s e _ _ next (ends g bytes maps work (◌⊎◌.inr k)) h
 later_line rules s e next g bytes maps work Savepoint k h = onto rules s e _ _ next (saves g bytes maps work k) h
@@ -87,12 +88,12 @@ later_line rules s e next g bytes maps work Begin k h = cc
 later_line rules s e next g bytes maps work Xa k h = cc
 later_line rules s e next g bytes maps work (Single one) k h = cc
 
-xid_line : (rules : Rules) (s : State) (e : Event) (next : State) (g : Gtid) (bytes : ℕ) (maps : List (List ℕ)) (work : Work) (short : Bool) →
+xid_line : (rules : Rules) (s : State) (e : Event) (next : State) (g : Gtid) (bytes : ℕ) (maps : Tables) (work : Work) (short : Bool) →
     nat_lt (length (body_of e)) 8 ≡ short → sort_of e ≡ XidEvent → (if short then Err (BadEvent 16) else Ok (ended s e g work)) ≡ Ok next → Moves rules s e (Inside g bytes maps work) next
 xid_line rules s e next g bytes maps work true t k h = cc
 xid_line rules s e next g bytes maps work false t k h = onto rules s e _ _ next (ends g bytes maps work (◌⊎◌.inl (record { kind = k; layout = ltb-false _ _ t }))) h
 
-told_line : (rules : Rules) (s : State) (e : Event) (next : State) (g : Gtid) (bytes : ℕ) (maps : List (List ℕ)) (work : Work) (counted : List Counted) (more : Option Work) →
+told_line : (rules : Rules) (s : State) (e : Event) (next : State) (g : Gtid) (bytes : ℕ) (maps : Tables) (work : Work) (counted : List Counted) (more : Option Work) →
     more_work work counted ≡ more → Tells rules maps e counted → told s e g bytes maps more ≡ Ok next → Moves rules s e (Inside g bytes maps work) next
 told_line rules s e next g bytes maps work counted None t k h = cc
 told_line rules s e next g bytes maps work counted (Some more) t k h = onto rules s e _ _ next (tells g bytes maps work counted more k t) h
@@ -116,8 +117,8 @@ line_moves rules s e next (Inside g bytes maps work) QueryEvent k h =
     later_line rules s e next g bytes maps work c.0 (record { kind = k; layout = c.1 }) c.2
 line_moves rules s e next (Inside g bytes maps work) XidEvent k h = xid_line rules s e next g bytes maps work _ refl k h
 line_moves rules s e next (Inside g bytes maps work) MapEvent k h =
-    let u = unrefused (rules.map (body_of e)) _ next h in
-    subst (λ z. Moves rules s e (Inside g bytes maps work) z) u.1 (maps_on g bytes maps work (record { kind = k; layout = u.0 }))
+    let c = chained (rules.map maps (body_of e)) _ next h in
+    onto rules s e _ _ next (maps_on g bytes maps work c.0 (record { kind = k; layout = c.1 })) c.2
 line_moves rules s e next (Inside g bytes maps work) RowsEvent k h =
     let c = chained (rules.rows maps (kind_of e) (body_of e)) _ next h in
     told_line rules s e next g bytes maps work c.0 _ refl (record { kind = k; layout = c.1 }) c.2

@@ -21,39 +21,39 @@ use Rattle.vs_log.proofs.Follows.{means, short_magic}
 use Rattle.vs_log.proofs.Takes.{walk}
 use Rattle.vs_log.proofs.Complete.{complete}
 
-abbrev gone_on : ℕ → Rules → ℕ → State → List ℕ → Result State Why → Log
-gone_on n rules at s rest r = elim r [ Ok next ↦ follow n rules (at + length_of rest) next (drop (length_of rest) rest) | Err why ↦ log_of s at (Some why) ]
+abbrev gone_on : {A : Type 0} → (State → ℕ → Option Why → A) → ℕ → Rules → ℕ → State → List ℕ → Result State Why → A
+gone_on tell n rules at s rest r = elim r [ Ok next ↦ follow_with tell n rules (at + length_of rest) next (drop (length_of rest) rest) | Err why ↦ tell s at (Some why) ]
 
-abbrev one_turn : ℕ → Rules → ℕ → State → List ℕ → Bool → Log
-one_turn n rules at s rest whole = if whole then gone_on n rules at s rest (step rules s (take (length_of rest) rest)) else log_of s at (head_refusal at s.place rest)
+abbrev one_turn : {A : Type 0} → (State → ℕ → Option Why → A) → ℕ → Rules → ℕ → State → List ℕ → Bool → A
+one_turn tell n rules at s rest whole = if whole then gone_on tell n rules at s rest (step rules s (take (length_of rest) rest)) else tell s at (head_refusal at s.place rest)
 
-follow_turn : (n : ℕ) (rules : Rules) (at : ℕ) (s : State) (rest : List ℕ) (whole : Bool) → is_held at rest ≡ whole → follow (suc n) rules at s rest ≡ one_turn n rules at s rest whole
+follow_turn : {A : Type 0} (tell : State → ℕ → Option Why → A) (n : ℕ) (rules : Rules) (at : ℕ) (s : State) (rest : List ℕ) (whole : Bool) → is_held at rest ≡ whole → follow_with tell (suc n) rules at s rest ≡ one_turn tell n rules at s rest whole
 unfolding follow_with
-follow_turn n rules at s rest whole h = ap (λ b. one_turn n rules at s rest b) h
+follow_turn tell n rules at s rest whole h = ap (λ b. one_turn tell n rules at s rest b) h
 
-follow_event : (n : ℕ) (rules : Rules) (at : ℕ) (s : State) (e more : List ℕ) (r : Result State Why) → IsEvent e → at + length e ≤ last_place → step rules s e ≡ r →
-    follow (suc n) rules at s (e ++ more) ≡ gone_on n rules at s (e ++ more) r
-follow_event n rules at s e more r is short h =
-    follow_turn n rules at s (e ++ more) true (holds at e more is short)
-    ∙ ap (λ z. gone_on n rules at s (e ++ more) (step rules s z)) (head_taken e more is) ∙ ap (λ z. gone_on n rules at s (e ++ more) z) h
+follow_event : {A : Type 0} (tell : State → ℕ → Option Why → A) (n : ℕ) (rules : Rules) (at : ℕ) (s : State) (e more : List ℕ) (r : Result State Why) → IsEvent e → at + length e ≤ last_place → step rules s e ≡ r →
+    follow_with tell (suc n) rules at s (e ++ more) ≡ gone_on tell n rules at s (e ++ more) r
+follow_event tell n rules at s e more r is short h =
+    follow_turn tell n rules at s (e ++ more) true (holds at e more is short)
+    ∙ ap (λ z. gone_on tell n rules at s (e ++ more) (step rules s z)) (head_taken e more is) ∙ ap (λ z. gone_on tell n rules at s (e ++ more) z) h
 
-follow_one : (n : ℕ) (rules : Rules) (at : ℕ) (s next : State) (e more : List ℕ) → IsEvent e → at + length e ≤ last_place → step rules s e ≡ Ok next →
-    follow (suc n) rules at s (e ++ more) ≡ follow n rules (at + length e) next more
-follow_one n rules at s next e more is short h =
-    follow_event n rules at s e more (Ok next) is short h
-    ∙ ap (λ z. follow n rules (at + z) next (drop (length_of (e ++ more)) (e ++ more))) (length_of-append e more is.head ∙ is.whole)
-    ∙ ap (λ z. follow n rules (at + length e) next z) (head_dropped e more is)
+follow_one : {A : Type 0} (tell : State → ℕ → Option Why → A) (n : ℕ) (rules : Rules) (at : ℕ) (s next : State) (e more : List ℕ) → IsEvent e → at + length e ≤ last_place → step rules s e ≡ Ok next →
+    follow_with tell (suc n) rules at s (e ++ more) ≡ follow_with tell n rules (at + length e) next more
+follow_one tell n rules at s next e more is short h =
+    follow_event tell n rules at s e more (Ok next) is short h
+    ∙ ap (λ z. follow_with tell n rules (at + z) next (drop (length_of (e ++ more)) (e ++ more))) (length_of-append e more is.head ∙ is.whole)
+    ∙ ap (λ z. follow_with tell n rules (at + length e) next z) (head_dropped e more is)
 
 -- events that are taken, are followed
-pub follow_walk : (n : ℕ) (rules : Rules) (at : ℕ) (s t : State) (events : List Event) (rest : List ℕ) → AllByRecursion IsEvent events → at + length (joined events) ≤ last_place →
+pub follow_walk : {A : Type 0} (tell : State → ℕ → Option Why → A) (n : ℕ) (rules : Rules) (at : ℕ) (s t : State) (events : List Event) (rest : List ℕ) → AllByRecursion IsEvent events → at + length (joined events) ≤ last_place →
     walk rules s events ≡ Ok t → length (joined events ++ rest) < n →
-    (m : ℕ) × (length rest < m) × (follow n rules at s (joined events ++ rest) ≡ follow m rules (at + length (joined events)) t rest)
-follow_walk n rules at s t [] rest a short w l =
+    (m : ℕ) × (length rest < m) × (follow_with tell n rules at s (joined events ++ rest) ≡ follow_with tell m rules (at + length (joined events)) t rest)
+follow_walk tell n rules at s t [] rest a short w l =
     let same : s ≡ t = cc in
     let here : at ≡ at + 0 = omega arith in
-    (n, l, ap (λ z. follow n rules at z rest) same ∙ ap (λ z. follow n rules z t rest) here)
-follow_walk zero rules at s t (e ∷ events) rest a short w l = absurd (omega arith)
-follow_walk (suc n) rules at s t (e ∷ events) rest a short w l =
+    (n, l, ap (λ z. follow_with tell n rules at z rest) same ∙ ap (λ z. follow_with tell n rules z t rest) here)
+follow_walk tell zero rules at s t (e ∷ events) rest a short w l = absurd (omega arith)
+follow_walk tell (suc n) rules at s t (e ∷ events) rest a short w l =
     let is : IsEvent e = a.0 in
     let whole = is.head in
     let c = chained (step rules s e) (λ z. walk rules z events) t w in
@@ -63,20 +63,20 @@ follow_walk (suc n) rules at s t (e ∷ events) rest a short w l =
     let short_e : at + length e ≤ last_place = omega arith in
     let short_rest : (at + length e) + length (joined events) ≤ last_place = omega arith in
     let fewer : length (joined events ++ rest) < n = omega arith in
-    let k = follow_walk n rules (at + length e) c.0 t events rest a.1 short_rest c.2 fewer in
+    let k = follow_walk tell n rules (at + length e) c.0 t events rest a.1 short_rest c.2 fewer in
     let sum : (at + length e) + length (joined events) ≡ at + length (e ++ joined events) = omega arith in (
       k.0,
       k.1,
-      ap (λ z. follow (suc n) rules at s z) regrouped ∙ follow_one n rules at s c.0 e (joined events ++ rest) is short_e c.1 ∙ k.2 ∙ ap (λ z. follow k.0 rules z t rest) sum,
+      ap (λ z. follow_with tell (suc n) rules at s z) regrouped ∙ follow_one tell n rules at s c.0 e (joined events ++ rest) is short_e c.1 ∙ k.2 ∙ ap (λ z. follow_with tell k.0 rules z t rest) sum,
     )
 
--- the log stops where its rest is refused, or isn't whole
-follow_stops : (n : ℕ) (rules : Rules) (at : ℕ) (s : State) (rest : List ℕ) (why : Option Why) → length rest < n → Refuses rules s at rest why → follow n rules at s rest ≡ log_of s at why
-follow_stops zero rules at s rest why l r = absurd (omega arith)
-follow_stops (suc n) rules at s rest None l r = follow_turn n rules at s rest false r.0 ∙ ap (λ z. log_of s at z) r.1
-follow_stops (suc n) rules at s rest (Some why) l (◌⊎◌.inl w) =
-    ap (λ z. follow (suc n) rules at s z) w.are ∙ follow_event n rules at s w.event w.more (Err why) w.whole w.short w.refused
-follow_stops (suc n) rules at s rest (Some why) l (◌⊎◌.inr h) = follow_turn n rules at s rest false h.0 ∙ ap (λ z. log_of s at z) h.1
+-- the reading stops where the rest is refused, or isn't whole
+pub follow_stops : {A : Type 0} (tell : State → ℕ → Option Why → A) (n : ℕ) (rules : Rules) (at : ℕ) (s : State) (rest : List ℕ) (why : Option Why) → length rest < n → Refuses rules s at rest why → follow_with tell n rules at s rest ≡ tell s at why
+follow_stops tell zero rules at s rest why l r = absurd (omega arith)
+follow_stops tell (suc n) rules at s rest None l r = follow_turn tell n rules at s rest false r.0 ∙ ap (λ z. tell s at z) r.1
+follow_stops tell (suc n) rules at s rest (Some why) l (◌⊎◌.inl w) =
+    ap (λ z. follow_with tell (suc n) rules at s z) w.are ∙ follow_event tell n rules at s w.event w.more (Err why) w.whole w.short w.refused
+follow_stops tell (suc n) rules at s rest (Some why) l (◌⊎◌.inr h) = follow_turn tell n rules at s rest false h.0 ∙ ap (λ z. tell s at z) h.1
 
 same_bytes : (xs : List ℕ) → pointwise nat_eq xs xs ≡ true
 same_bytes xs = (bytes_eq-Decides xs xs).1 refl
@@ -98,13 +98,13 @@ pub log_behind : (rules : Rules) (bytes : List ℕ) (events : List Event) (rest 
     (m : ℕ) × (length rest < m) × (log_meant rules bytes ≡ follow m rules (4 + length (joined events)) s rest)
 log_behind rules bytes events rest s c b =
     let n = suc (length (magic ++ (joined events ++ rest))) in
-    let k = follow_walk n rules 4 front s events rest c.whole c.short (complete rules events s b) (omega arith) in
+    let k = follow_walk log_of n rules 4 front s events rest c.whole c.short (complete rules events s b) (omega arith) in
     (k.0, k.1, ap (λ z. log_meant rules z) c.are ∙ log_from rules (magic ++ (joined events ++ rest)) true (magic_there (joined events ++ rest)) ∙ k.2)
 
 only_parts : (rules : Rules) (bytes : List ℕ) (log : Log) → Parts rules bytes log → log ≡ log_meant rules bytes
 only_parts rules bytes log p =
     let k = log_behind rules bytes p.events p.rest p.state p.cut p.begins in
-    p.is ∙ sym (k.2 ∙ follow_stops k.0 rules (4 + length (joined p.events)) p.state p.rest p.why k.1 p.refused)
+    p.is ∙ sym (k.2 ∙ follow_stops log_of k.0 rules (4 + length (joined p.events)) p.state p.rest p.why k.1 p.refused)
 
 pub only : (rules : Rules) (bytes : List ℕ) (log : Log) → Means rules bytes log → log ≡ log_meant rules bytes
 only rules bytes log (◌⊎◌.inl parts) = only_parts rules bytes log parts

@@ -1,5 +1,5 @@
 -- What the shapes of a log are when an event comes behind.
-use Rattle.std.proofs.Common.{◌≡◌, ◌+◌, ℕ, true, false, List, [], ◌∷◌, ◌++◌, if◌then◌else◌, Option, Some, None, refl, ap, sym, subst, ◌∙◌, append_assoc, arith}
+use Rattle.std.proofs.Common.{◌≡◌, ◌+◌, true, false, List, [], ◌∷◌, ◌++◌, if◌then◌else◌, Option, Some, None, refl, ap, sym, subst, ◌∙◌, append_assoc, arith}
 use Rattle.std.specs.Prelude.{◌⊎◌}
 use Rattle.std.specs.List.{filter, AllByRecursion}
 use Rattle.std.proofs.lemmas.List.{append-nil, map-append}
@@ -11,9 +11,10 @@ use Rattle.vs_gtid.specs.Positions.{Position}
 use Rattle.vs_gtid.specs.Joins.{added}
 use Rattle.vs_log.specs.declared.state.Counted.{Counted}
 use Rattle.vs_log.specs.declared.state.Counted.TheVariants.{Changed, Journaled}
-use Rattle.vs_binlog.specs.Heads.{Event, body_of}
+use Rattle.vs_binlog.specs.Heads.{Event}
 use Rattle.vs_log.specs.Table.{Rules, one_more, more_work}
 use Rattle.vs_log.specs.Productions.{is_counted, total, in_turn, is_nil, IsMiddle, IsWork, IsEntry, IsNew, AreEntries}
+use Rattle.vs_rows.specs.Tables.{Tables}
 
 pub all_more : {A : Type 0} (P : A → Type 0) (xs : List A) (x : A) → AllByRecursion P xs → P x → AllByRecursion P (xs ++ x ∷ [])
 all_more P [] x a p = (p, tt)
@@ -78,12 +79,12 @@ filter_more es e k = filter-append is_counted es (e ∷ []) ∙ ap (λ b. filter
 pub filter_same : (es : List Event) (e : Event) → is_counted e ≡ false → filter is_counted (es ++ e ∷ []) ≡ filter is_counted es
 filter_same es e k = filter-append is_counted es (e ∷ []) ∙ ap (λ b. filter is_counted es ++ (if b then e ∷ [] else [])) k ∙ append-nil (filter is_counted es)
 
-pub middle_more : (rules : Rules) (before : List (List ℕ)) (middle : List Event) (counted : List Counted) (maps : List (List ℕ)) (e : Event) (more : List Counted) (after : List (List ℕ)) →
+pub middle_more : (rules : Rules) (before : Tables) (middle : List Event) (counted : List Counted) (maps : Tables) (e : Event) (more : List Counted) (after : Tables) →
     IsMiddle rules before middle counted maps → IsMiddle rules maps (e ∷ []) more after → IsMiddle rules before (middle ++ e ∷ []) (counted ++ more) after
 middle_more rules before [] counted maps e more after m n =
     subst (λ z. IsMiddle rules before (e ∷ []) (z ++ more) after) (sym m.0) (subst (λ z. IsMiddle rules z (e ∷ []) more after) (sym m.1) n)
 middle_more rules before (f ∷ middle) counted maps e more after m n = elim m [
-  | ◌⊎◌.inl a ↦ ◌⊎◌.inl (a.0, middle_more rules (before ++ body_of f ∷ []) middle counted maps e more after a.1 n)
+  | ◌⊎◌.inl a ↦ ◌⊎◌.inl (a.0, a.1, middle_more rules a.0 middle counted maps e more after a.2 n)
   | ◌⊎◌.inr b ↦ elim b [
     | ◌⊎◌.inl t ↦ ◌⊎◌.inr (◌⊎◌.inl (t.0, t.1 ++ more, t.2, ap (λ z. z ++ more) t.3 ∙ append_assoc t.0 t.1 more, middle_more rules before middle t.1 maps e more after t.4 n))
     | ◌⊎◌.inr s ↦ ◌⊎◌.inr (◌⊎◌.inr (s.0, middle_more rules before middle counted maps e more after s.1 n))

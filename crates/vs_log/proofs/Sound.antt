@@ -25,6 +25,7 @@ use Rattle.vs_log.specs.Productions.{counts, is_counted, total, in_turn, is_nil,
 use Rattle.vs_log.proofs.Moves.{Moves, inside, step_moves}
 use Rattle.vs_log.proofs.Moves.Moves.{formatted, passed_between, passed_named, passed_inside, based, names, singles, begins, saves, maps_on, tells, ends}
 use Rattle.vs_log.proofs.Shapes.{all_more, total-append, in_turn-more, entries_more, left_nil, right_nil, no_entries, nil_from, is_nil-more, filter_more, filter_same, middle_more, work_more}
+use Rattle.vs_rows.specs.Tables.{Tables}
 
 -- the log with an event more, whose parts are these
 grown : (rules : Rules) (events : List Event) (base base' : Position) (entries entries' : List Entry) (known known' : Position) (opened opened' previous : List Event) (groups : List (List Event)) (e : Event) →
@@ -97,7 +98,7 @@ total_more : (opened : List Event) (e : Event) (bytes : ℕ) → bytes ≡ total
 total_more opened e bytes b = omega (arith, total-append opened (e ∷ []))
 
 -- behind an event that leaves a transaction open
-inside_more : (rules : Rules) (events : List Event) (s : State) (e : Event) (g : Gtid) (bytes : ℕ) (maps : List (List ℕ)) (work : Work) (known : Position) (opened : List Event) →
+inside_more : (rules : Rules) (events : List Event) (s : State) (e : Event) (g : Gtid) (bytes : ℕ) (maps : Tables) (work : Work) (known : Position) (opened : List Event) →
     IsLog rules events s.base s.entries known opened → length_of e ≤ limit → is_counted e ≡ true → bytes + length_of e ≤ limit →
     bytes ≡ total opened → s.known ≡ added known g → IsNew known g → IsUnended rules (opened ++ e ∷ []) g maps work → Stands rules (events ++ e ∷ []) (inside s e g bytes maps work)
 inside_more rules events s e g bytes maps work known opened l fits k small b same new is = record {
@@ -120,7 +121,7 @@ ended_more rules events s e g work known opened l fits k same new is = record {
   first = not_first events l.after l.format e l.are k;
 }
 
-unended_more : (rules : Rules) (opened : List Event) (g : Gtid) (maps after : List (List ℕ)) (work next : Work) (e : Event) (more : List Counted) →
+unended_more : (rules : Rules) (opened : List Event) (g : Gtid) (maps after : Tables) (work next : Work) (e : Event) (more : List Counted) →
     (u : IsUnended rules opened g maps work) → IsMiddle rules maps (e ∷ []) more after → IsWork (u.counted ++ more) next → IsUnended rules (opened ++ e ∷ []) g after next
 unended_more rules opened g maps after work next e more u m w = record {
   gtid = u.gtid;
@@ -175,7 +176,7 @@ single_entry rules opened e g statement work n says single small = record {
   size = small;
 }
 
-transaction_entry : (rules : Rules) (opened : List Event) (e : Event) (g : Gtid) (maps : List (List ℕ)) (work : Work) → IsUnended rules opened g maps work →
+transaction_entry : (rules : Rules) (opened : List Event) (e : Event) (g : Gtid) (maps : Tables) (work : Work) → IsUnended rules opened g maps work →
     Ends rules e → total (opened ++ e ∷ []) ≤ limit → IsEntry rules (opened ++ e ∷ []) (record { gtid = g; time = time_of e; work = work })
 transaction_entry rules opened e g maps work u end small = record {
   form = ◌⊎◌.inr (record { opened = opened; last = e; are = refl; maps = maps; begun = u; ends = end; time = refl });
@@ -228,10 +229,10 @@ sound_move rules events s e place next known opened st l b first fits small (sav
     let k : is_counted e ≡ true = ap counts says.kind in
     inside_more rules events s e g bytes maps work known opened l fits k (small k) b.3 b.2 b.1
     (unended_more rules opened g maps maps work work e [] b.0 (◌⊎◌.inr (◌⊎◌.inr (says, (refl, refl)))) (same_work b.0.counted work b.0.comes))
-sound_move rules events s e place next known opened st l b first fits small (maps_on g bytes maps work is) =
+sound_move rules events s e place next known opened st l b first fits small (maps_on g bytes maps work more is) =
     let k : is_counted e ≡ true = ap counts is.kind in
-    inside_more rules events s e g bytes (maps ++ body_of e ∷ []) work known opened l fits k (small k) b.3 b.2 b.1
-    (unended_more rules opened g maps (maps ++ body_of e ∷ []) work work e [] b.0 (◌⊎◌.inl (is, (refl, refl))) (same_work b.0.counted work b.0.comes))
+    inside_more rules events s e g bytes more work known opened l fits k (small k) b.3 b.2 b.1
+    (unended_more rules opened g maps more work work e [] b.0 (◌⊎◌.inl (more, is, (refl, refl))) (same_work b.0.counted work b.0.comes))
 sound_move rules events s e place next known opened st l b first fits small (tells g bytes maps work counted more says told) =
     let k : is_counted e ≡ true = ap counts says.kind in
     inside_more rules events s e g bytes maps more known opened l fits k (small k) b.3 b.2 b.1

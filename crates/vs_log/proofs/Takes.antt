@@ -59,9 +59,9 @@ line_takes rules s e place next (begins g bytes says) =
     ap (λ z. line rules s e (Named g bytes) z) says.kind ∙ query_line rules s e Begin (first_query s e g bytes) says.layout
 line_takes rules s e place next (saves g bytes maps work says) =
     ap (λ z. line rules s e (Inside g bytes maps work) z) says.kind ∙ query_line rules s e Savepoint (later_query s e g bytes maps work) says.layout
-line_takes rules s e place next (maps_on g bytes maps work is) =
+line_takes rules s e place next (maps_on g bytes maps work more is) =
     ap (λ z. line rules s e (Inside g bytes maps work) z) is.kind
-    ∙ ap (λ r. unless r (record s { place = Inside g (bytes + length_of e) (maps ++ body_of e ∷ []) work })) is.layout
+    ∙ ap (λ r. r >>= λ x. Ok (record s { place = Inside g (bytes + length_of e) x work })) is.layout
 line_takes rules s e place next (tells g bytes maps work counted more is t) =
     ap (λ z. line rules s e (Inside g bytes maps work) z) is.kind
     ∙ ap (λ r. r >>= λ x. told s e g bytes maps (more_work work x)) is.layout
@@ -109,7 +109,7 @@ moves_behind rules s e place next b (names first g is new) = refl
 moves_behind rules s e place next b (singles g bytes statement work says one) = refl
 moves_behind rules s e place next b (begins g bytes says) = refl
 moves_behind rules s e place next b (saves g bytes maps work says) = refl
-moves_behind rules s e place next b (maps_on g bytes maps work is) = refl
+moves_behind rules s e place next b (maps_on g bytes maps work more is) = refl
 moves_behind rules s e place next b (tells g bytes maps work counted more is t) = refl
 moves_behind rules s e place next b (ends g bytes maps work end) = refl
 

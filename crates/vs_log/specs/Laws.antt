@@ -1,6 +1,6 @@
 -- The laws that tie the table to the productions.
 use Rattle.std.specs.List.{AllByRecursion}
-use Rattle.std.specs.Prelude.{false, ◌≡◌, ◌≤◌, length, take, ◌⊎◌, List, [], ◌∷◌, ◌++◌, Some, None, Ok, Err, ℕ}
+use Rattle.std.specs.Prelude.{true, false, ◌≡◌, ◌≤◌, ◌<◌, ◌+◌, length, take, ◌⊎◌, List, [], ◌∷◌, ◌++◌, Option, Some, None, Ok, Err, ℕ}
 use Rattle.vs_base.specs.declared.Why.{Why}
 use Rattle.vs_gtid.specs.declared.Entry.{Entry}
 use Rattle.vs_gtid.specs.Logs.{Log, HaveDistinctGtids}
@@ -9,8 +9,9 @@ use Rattle.vs_gtid.specs.Joins.{added}
 use Rattle.vs_log.specs.declared.state.State.{State}
 use Rattle.vs_binlog.specs.Heads.{Event}
 use Rattle.vs_log.specs.Table.{Rules, step}
-use Rattle.vs_log.specs.Meaning.{log_meant}
-use Rattle.vs_log.specs.Productions.{Begins, IsWholeLog, Means}
+use Rattle.vs_log.specs.Events.{joined}
+use Rattle.vs_log.specs.Meaning.{has_magic, is_base_known, knows_base, log_meant}
+use Rattle.vs_log.specs.Productions.{Begins, IsCut, IsWholeLog, Means, Refuses}
 
 -- The table takes an event where, and only where, the beginning of a log goes on with it.
 pub record TakesBeginnings (rules : Rules) : Type 0 where
@@ -33,6 +34,18 @@ pub record Grows (rules : Rules) (bytes more : List ℕ) : Type 0 where
   pub faulty : (fault : ℕ × Why) → (log_meant rules bytes).fault ≡ Some fault → log_meant rules (bytes ++ more) ≡ log_meant rules bytes
   -- what a whole log says
   pub whole : (base : Position) (es : List Entry) → IsWholeLog rules bytes base es → log_meant rules bytes ≡ record { base = base; entries = es; fault = None }
+
+-- When the base is known, by the beginning of a log that the bytes are.
+pub record KnowsItsBase (rules : Rules) (bytes : List ℕ) : Type 0 where
+  pub parts : (events : List Event) (s : State) (rest : List ℕ) (why : Option Why) → IsCut bytes events rest → Begins rules events s → Refuses rules s (4 + length (joined events)) rest why →
+      knows_base rules bytes ≡ is_base_known s.place why
+  -- once it is known, it is the log's base, whatever follows
+  pub behind : (events : List Event) (s : State) (rest : List ℕ) → IsCut bytes events rest → Begins rules events s → is_base_known s.place None ≡ true →
+      (knows_base rules bytes ≡ true) × ((log_meant rules bytes).base ≡ s.base)
+  pub short : has_magic bytes ≡ true → length bytes < 4 → knows_base rules bytes ≡ false
+  pub none : has_magic bytes ≡ false → knows_base rules bytes ≡ false
+  -- where it isn't known, the log has none
+  pub unknown : knows_base rules bytes ≡ false → (log_meant rules bytes).base ≡ []
 
 -- no front of the bytes is a whole log
 abbrev pub HasNone : Rules → List ℕ → Type 0

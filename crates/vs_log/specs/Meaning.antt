@@ -63,6 +63,10 @@ is_base_known (Between false) why = true
 is_base_known (Named g bytes) why = true
 is_base_known (Inside g bytes maps work) why = true
 
+-- what is known of the base where the reading ends
+abbrev pub tell_base : State → ℕ → Option Why → Bool
+tell_base s at why = is_base_known s.place why
+
 -- whether the base is known from these bytes of the log
 unfoldable pub knows_base : Rules → List ℕ → Bool
-knows_base rules bytes = if has_magic bytes then follow_with (λ s at why. is_base_known s.place why) (suc (length bytes)) rules 4 front (drop 4 bytes) else false
+knows_base rules bytes = if has_magic bytes then follow_with tell_base (suc (length bytes)) rules 4 front (drop 4 bytes) else false

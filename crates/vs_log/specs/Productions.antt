@@ -20,6 +20,7 @@ use Rattle.vs_log.specs.declared.state.Place.{Place}
 use Rattle.vs_log.specs.declared.state.Place.TheVariants.{Front, Between, Named, Inside}
 use Rattle.vs_log.specs.declared.state.State.{State}
 use Rattle.vs_binlog.specs.Heads.{Event, time_of, kind_of, length_of, body_of}
+use Rattle.vs_rows.specs.Tables.{Tables}
 use Rattle.vs_log.specs.Events.{sort_of, is_held, limit, last_place, magic, joined, IsEvent}
 use Rattle.vs_log.specs.Table.{Rules, format_refusal, gtid_in, single_work, step}
 use Rattle.vs_log.specs.Meaning.{front, head_refusal, has_magic, log_of}
@@ -58,12 +59,13 @@ pub record IsXid (e : Event) : Type 0 where
   pub kind : sort_of e ≡ XidEvent
   pub layout : 8 ≤ length (body_of e)
 
-pub record IsMap (rules : Rules) (e : Event) : Type 0 where
+-- a table map: with it these tables are known, after those known before it
+pub record IsMap (rules : Rules) (maps : Tables) (e : Event) (more : Tables) : Type 0 where
   pub kind : sort_of e ≡ MapEvent
-  pub layout : rules.map (body_of e) ≡ None
+  pub layout : rules.map maps (body_of e) ≡ Ok more
 
--- a rows event, after these table maps
-pub record Tells (rules : Rules) (maps : List (List ℕ)) (e : Event) (counted : List Counted) : Type 0 where
+-- a rows event, where these tables are known
+pub record Tells (rules : Rules) (maps : Tables) (e : Event) (counted : List Counted) : Type 0 where
   pub kind : sort_of e ≡ RowsEvent
   pub layout : rules.rows maps (kind_of e) (body_of e) ≡ Ok counted
 
@@ -73,11 +75,11 @@ IsBase rules [] base = base ≡ []
 IsBase rules (e ∷ []) base = (sort_of e ≡ PreviousEvent) × (rules.block (body_of e) ≡ Ok base)
 IsBase rules (e ∷ f ∷ es) base = ⊥
 
--- (map | rows | savepoint)*: behind the maps before, these events tell this, and leave these maps
-abbrev pub IsMiddle : Rules → List (List ℕ) → List Event → List Counted → List (List ℕ) → Type 0
+-- (map | rows | savepoint)*: where the tables before are known, these events tell this, and these tables are known behind them
+abbrev pub IsMiddle : Rules → Tables → List Event → List Counted → Tables → Type 0
 IsMiddle rules before [] counted maps = (counted ≡ []) × (before ≡ maps)
 IsMiddle rules before (e ∷ es) counted maps =
-    (IsMap rules e × IsMiddle rules (before ++ body_of e ∷ []) es counted maps)
+    ((known : Tables) × IsMap rules before e known × IsMiddle rules known es counted maps)
     ⊎ (((told more : List Counted) × Tells rules before e told × (counted ≡ told ++ more) × IsMiddle rules before es more maps)
     ⊎ (Says rules e Savepoint × IsMiddle rules before es counted maps))
 
@@ -99,7 +101,7 @@ pub record IsSingle (rules : Rules) (events : List Event) (e : Entry) : Type 0 w
   pub time : e.time ≡ time_of query
 
 -- gtid query(BEGIN) (map | rows | savepoint)*
-pub record IsUnended (rules : Rules) (events : List Event) (g : Gtid) (maps : List (List ℕ)) (work : Work) : Type 0 where
+pub record IsUnended (rules : Rules) (events : List Event) (g : Gtid) (maps : Tables) (work : Work) : Type 0 where
   pub gtid : Event
   pub begin : Event
   pub middle : List Event
@@ -119,7 +121,7 @@ pub record IsTransaction (rules : Rules) (events : List Event) (e : Entry) : Typ
   pub opened : List Event
   pub last : Event
   pub are : events ≡ opened ++ last ∷ []
-  pub maps : List (List ℕ)
+  pub maps : Tables
   pub begun : IsUnended rules opened e.gtid maps e.work
   pub ends : Ends rules last
   pub time : e.time ≡ time_of last
@@ -193,6 +195,17 @@ pub record IsCut (bytes : List ℕ) (events : List Event) (rest : List ℕ) : Ty
   pub are : bytes ≡ magic ++ (joined events ++ rest)
   pub whole : AllByRecursion IsEvent events
   pub short : 4 + length (joined events) ≤ last_place
+
+-- The GTID event of an entry of this GTID, which is open or whole, stands at this place: the events up to it, and it, begin a log.
+pub record StandsAt (rules : Rules) (bytes : List ℕ) (g : Gtid) (at : ℕ) : Type 0 where
+  pub before : List Event
+  pub event : Event
+  pub rest : List ℕ
+  pub cut : IsCut bytes (before ++ event ∷ []) rest
+  pub place : at ≡ 4 + length (joined before)
+  pub state : State
+  pub begins : Begins rules (before ++ event ∷ []) state
+  pub names : IsGtid event g
 
 -- a whole log
 pub record IsWholeLog (rules : Rules) (bytes : List ℕ) (base : Position) (entries : List Entry) : Type 0 where

@@ -21,6 +21,7 @@ use Rattle.vs_log.specs.declared.event.Sort.{Sort}
 use Rattle.vs_log.specs.declared.event.Sort.TheVariants.{AnonymousEvent, PassedOver, FormatEvent, PreviousEvent, GtidEvent, QueryEvent, XidEvent, MapEvent, RowsEvent, ForeignEvent}
 use Rattle.std.specs.Prelude.{ℕ, ◌+◌, true, false, nat_lt, if◌then◌else◌, List, [], ◌∷◌, ◌++◌, length, Option, Some, None, Result, Ok, Err}
 use Rattle.vs_binlog.specs.Heads.{Event, time_of, kind_of, length_of, body_of}
+use Rattle.vs_rows.specs.Tables.{Tables}
 use Rattle.vs_log.specs.Events.{sort_of, limit}
 
 -- What the bodies of events mean, under the keyspace and the schema of the log.
@@ -29,10 +30,10 @@ pub record Rules : Type 0 where
   pub statement : List ℕ → Result Statement Why
   -- a PREVIOUS_GTIDS event
   pub block : List ℕ → Result Position Why
-  -- what is wrong with a table map
-  pub map : List ℕ → Option Why
-  -- a rows event, by its kind, after these table maps
-  pub rows : List (List ℕ) → ℕ → List ℕ → Result (List Counted) Why
+  -- the tables that are known behind a table map, after those known before it
+  pub map : Tables → List ℕ → Result Tables Why
+  -- a rows event, by its kind, where these tables are known
+  pub rows : Tables → ℕ → List ℕ → Result (List Counted) Why
 
 infixl 10 ◌>>=◌
 abbrev pub ◌>>=◌ : {A B : Type 0} → Result A Why → (A → Result B Why) → Result B Why
@@ -124,7 +125,7 @@ first_query s e g bytes Savepoint = Ok (ended s e g Other)
 first_query s e g bytes (Single work) = Ok (ended s e g work)
 
 -- a query inside a transaction
-abbrev pub later_query : State → Event → Gtid → ℕ → List (List ℕ) → Work → Statement → Result State Why
+abbrev pub later_query : State → Event → Gtid → ℕ → Tables → Work → Statement → Result State Why
 later_query s e g bytes maps work Commit = Ok (ended s e g work)
 later_query s e g bytes maps work Savepoint = Ok (record s { place = Inside g (bytes + length_of e) maps work })
 later_query s e g bytes maps work Begin = Err NestedBegin
@@ -132,7 +133,7 @@ later_query s e g bytes maps work Xa = Err UnsupportedStatement
 later_query s e g bytes maps work (Single single) = Err UnsupportedStatement
 
 -- the rows go to the work
-abbrev pub told : State → Event → Gtid → ℕ → List (List ℕ) → Option Work → Result State Why
+abbrev pub told : State → Event → Gtid → ℕ → Tables → Option Work → Result State Why
 told s e g bytes maps None = Err JournalNotAlone
 told s e g bytes maps (Some work) = Ok (record s { place = Inside g (bytes + length_of e) maps work })
 
@@ -151,7 +152,7 @@ line rules s e (Named g bytes) QueryEvent = rules.statement (body_of e) >>= firs
 line rules s e (Named g bytes) sort = Err (BadOrder (kind_of e))
 line rules s e (Inside g bytes maps work) QueryEvent = rules.statement (body_of e) >>= later_query s e g bytes maps work
 line rules s e (Inside g bytes maps work) XidEvent = if nat_lt (length (body_of e)) 8 then Err (BadEvent 16) else Ok (ended s e g work)
-line rules s e (Inside g bytes maps work) MapEvent = unless (rules.map (body_of e)) (record s { place = Inside g (bytes + length_of e) (maps ++ body_of e ∷ []) work })
+line rules s e (Inside g bytes maps work) MapEvent = rules.map maps (body_of e) >>= λ more. Ok (record s { place = Inside g (bytes + length_of e) more work })
 line rules s e (Inside g bytes maps work) RowsEvent = rules.rows maps (kind_of e) (body_of e) >>= λ counted. told s e g bytes maps (more_work work counted)
 line rules s e (Inside g bytes maps work) sort = Err (BadOrder (kind_of e))
 

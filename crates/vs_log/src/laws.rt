@@ -1,6 +1,15 @@
-ghost use Rattle.std.specs.Prelude.{List as Items, ℕ};
-ghost use Rattle.vs_log.specs.Laws.{Grows, HasNewGtids, IsOfWholeLog, MeansByProductions, TakesBeginnings};
+ghost use Rattle.std.specs.Prelude.{◌≡◌, List as Items, ℕ};
+ghost use Rattle.vs_base.specs.declared.Gtid.{Gtid};
+ghost use Rattle.vs_log.specs.Laws.{
+  Grows,
+  HasNewGtids,
+  IsOfWholeLog,
+  KnowsItsBase,
+  MeansByProductions,
+  TakesBeginnings,
+};
 ghost use Rattle.vs_log.specs.Meaning.{log_meant};
+ghost use Rattle.vs_log.specs.Productions.{StandsAt};
 ghost use Rattle.vs_log.specs.Table.{Rules};
 
 /// The table takes an event where, and only where, the beginning of a log goes on with it.
@@ -19,6 +28,12 @@ pub fn law_growth()
     ensures { (rules : Rules) (bytes more : Items ℕ) → Grows rules bytes more }
 {}
 
+/// The base is known where the beginning of a log that the bytes are tells it, and is then the log's.
+#[tactic(auto, using(crate::proofs::Bases::knows_its_base))]
+pub fn law_base()
+    ensures { (rules : Rules) (bytes : Items ℕ) → KnowsItsBase rules bytes }
+{}
+
 /// The base and the entries are those of the longest front of the bytes that is a whole log.
 /// Where no front is one, there are none.
 pub fn law_longest()
@@ -30,4 +45,9 @@ pub fn law_longest()
 #[tactic(auto, using(crate::proofs::Distinct::new_gtids))]
 pub fn law_distinct()
     ensures { (rules : Rules) (bytes : Items ℕ) → HasNewGtids (log_meant rules bytes) }
+{}
+
+/// The GTID event of an entry stands at one place.
+pub fn law_places()
+    ensures { (rules : Rules) (bytes : Items ℕ) (g : Gtid) (at other : ℕ) → StandsAt rules bytes g at → StandsAt rules bytes g other → at ≡ other }
 {}

@@ -9,5 +9,7 @@ mod state;
 mod tests;
 
 pub use event::Sort;
-pub use laws::{law_beginnings, law_distinct, law_growth, law_longest, law_meaning};
+pub use laws::{
+    law_base, law_beginnings, law_distinct, law_growth, law_longest, law_meaning, law_places,
+};
 pub use state::{Counted, Place, State, Statement};

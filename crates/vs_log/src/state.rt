@@ -1,5 +1,6 @@
-use vs_base::{Change, Gtid, List, Text};
+use vs_base::{Change, Gtid, List};
 use vs_gtid::{Entry, GtidSet, JournalValue, Work};
+use vs_rows::Maps;
 
 /// What a query says, as far as the order of a log depends on it.
 #[derive(Debug, Drop)]
@@ -27,8 +28,8 @@ pub enum Place {
     Between(bool),
     /// behind the GTID event of an entry, of so many bytes
     Named(Gtid, u64),
-    /// behind its BEGIN: the bytes so far, the bodies of its table maps, and its work
-    Inside(Gtid, u64, List<Text>, Work),
+    /// behind its BEGIN: the bytes so far, what its table maps told, and its work
+    Inside(Gtid, u64, Maps, Work),
 }
 
 /// What the events of a log, from the first on, have given.

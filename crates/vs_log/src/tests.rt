@@ -1,4 +1,6 @@
-use crate::{law_beginnings, law_distinct, law_growth, law_longest, law_meaning};
+use crate::{
+    law_base, law_beginnings, law_distinct, law_growth, law_longest, law_meaning, law_places,
+};
 
 #[test]
 fn laws_are_called() {
@@ -7,4 +9,6 @@ fn laws_are_called() {
     law_growth();
     law_longest();
     law_distinct();
+    law_base();
+    law_places();
 }

@@ -1,15 +1,16 @@
-use Rattle.std.proofs.Common.{refl}
+use Rattle.std.proofs.Common.{Err, ap, refl}
 use Rattle.std.specs.Prelude.{◌⊎◌}
+use Rattle.vs_command.specs.declared.status.Status.TheVariants.{BadSchema}
 use Rattle.vs_command.proofs.AnswerLemmas.{Writes-streamed, Writes-unread, told_always, told_so}
-use Rattle.vs_command.proofs.DueLemmas.{due_streamed, due_unknown}
+use Rattle.vs_command.proofs.DueLemmas.{due_bad_schema, due_streamed, due_unknown}
 use Rattle.vs_command.proofs.connection.stream_shard.Goals as goal
 
 pub returns-in-Ok-Some-clause-answers : goal.returns-in-Ok-Some-clause-answers
 returns-in-Ok-Some-clause-answers g c =
     let fetched = rw c.in-Ok-Some.field-0-is at c.in-Ok-Some.ensures.log in
     let marked = rw c.in-Ok-Some.field-0-is at c.in-Ok-Some.ensures.marked in
-    Writes-streamed c.laws.ensures (g.T.Tablets.cluster c.args.tablets.now) c.args.asked.name c.args.asked.start c.in-Ok-Some.fetched.mark _ _ c.in-Ok-Some.fetched.log.items _ _
-    fetched marked c.stream_log.ensures.wrote
+    Writes-streamed c.laws.ensures (g.T.Tablets.cluster c.args.tablets.now) c.args.asked.name c.args.asked.start c.in-Ok-Some.fetched _ _ fetched.0 fetched.1 _ _
+    fetched.2 fetched.3 marked c.stream_log.ensures.wrote
 
 pub returns-in-Ok-None-clause-answers : goal.returns-in-Ok-None-clause-answers
 returns-in-Ok-None-clause-answers g c =
@@ -19,6 +20,12 @@ returns-in-Ok-None-clause-answers g c =
 pub returns-in-Err-Memory-clause-answers : goal.returns-in-Err-Memory-clause-answers
 returns-in-Err-Memory-clause-answers g c =
     Writes-unread (g.T.Tablets.cluster c.args.tablets.now) c.args.asked.name c.args.asked.start _ _ _ (told_always _ (g.T.Tablets.cluster c.args.tablets.now) (λ _. tt))
+
+pub returns-in-Err-BadSchema-clause-answers : goal.returns-in-Err-BadSchema-clause-answers
+returns-in-Err-BadSchema-clause-answers g c =
+    let bad = c.in-Err-BadSchema.ensures.bad_schema c.in-Err-BadSchema.line (ap (λ e. Err e) c.in-Err-BadSchema.field-0-is) in
+    rw c.in-Err-BadSchema.line-is (Writes-unread (g.T.Tablets.cluster c.args.tablets.now) c.args.asked.name c.args.asked.start _ (BadSchema c.args.asked.name c.in-Err-BadSchema.line) _
+    (told_so _ _ (g.T.Tablets.cluster c.args.tablets.now) (λ k p. (refl, p)) bad))
 
 pub returns-in-Err-OpenFault-clause-answers : goal.returns-in-Err-OpenFault-clause-answers
 returns-in-Err-OpenFault-clause-answers g c =
@@ -31,7 +38,7 @@ returns-in-Err-FeedFault-clause-answers g c =
 pub returns-in-Ok-Some-clause-due : goal.returns-in-Ok-Some-clause-due
 returns-in-Ok-Some-clause-due g c =
     let fetched = rw c.in-Ok-Some.field-0-is at c.in-Ok-Some.ensures.log in
-    due_streamed (g.T.Tablets.cluster c.args.tablets.now) c.args.asked.name c.args.asked.start _ c.in-Ok-Some.fetched.log.items fetched c.stream_log.ensures.due
+    due_streamed (g.T.Tablets.cluster c.args.tablets.now) c.args.asked.name c.args.asked.start _ fetched.0 fetched.1 c.in-Ok-Some.fetched fetched.2 fetched.3 c.stream_log.ensures.due
 
 pub returns-in-Ok-None-clause-due : goal.returns-in-Ok-None-clause-due
 returns-in-Ok-None-clause-due g c =
@@ -40,6 +47,11 @@ returns-in-Ok-None-clause-due g c =
 
 pub returns-in-Err-Memory-clause-due : goal.returns-in-Err-Memory-clause-due
 returns-in-Err-Memory-clause-due g c = told_always _ (g.T.Tablets.cluster c.args.tablets.now) (λ _. ◌⊎◌.inl tt)
+
+pub returns-in-Err-BadSchema-clause-due : goal.returns-in-Err-BadSchema-clause-due
+returns-in-Err-BadSchema-clause-due g c =
+    let bad = c.in-Err-BadSchema.ensures.bad_schema c.in-Err-BadSchema.line (ap (λ e. Err e) c.in-Err-BadSchema.field-0-is) in
+    rw c.in-Err-BadSchema.line-is (due_bad_schema (g.T.Tablets.cluster c.args.tablets.now) c.args.asked.name c.args.asked.start c.in-Err-BadSchema.line bad)
 
 pub returns-in-Err-OpenFault-clause-due : goal.returns-in-Err-OpenFault-clause-due
 returns-in-Err-OpenFault-clause-due g c = told_always _ (g.T.Tablets.cluster c.args.tablets.now) (λ _. ◌⊎◌.inl tt)

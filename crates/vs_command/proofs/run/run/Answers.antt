@@ -1,7 +1,7 @@
 use Rattle.std.proofs.Common.{◌≡◌, subst}
 use Rattle.std.specs.Prelude.{◌⊎◌, IfSome}
 use Rattle.vs_command.specs.Causes.{IsDue, IsOutside}
-use Rattle.vs_command.specs.declared.status.Status.TheVariants.{Done, UnknownShard, Purged, BadLog, PositionTooLarge}
+use Rattle.vs_command.specs.declared.status.Status.TheVariants.{BadSchema, Done, UnknownShard, Purged, BadLog, PositionTooLarge}
 use Rattle.vs_command.proofs.AnswerLemmas.{headline_told}
 use Rattle.vs_command.proofs.run.run.Goals as goal
 
@@ -15,6 +15,11 @@ pub returns-clause-unknown_when : goal.returns-clause-unknown_when
 returns-clause-unknown_when g c folder name words =
     subst (λ t. IfSome t (λ k. IfSome (g.I.Source.left c.args.input.now) (λ input. IsDue k input (UnknownShard name) → IsOutside c.connection.result ⊎ (c.connection.result ≡ (UnknownShard name)))))
     c.point.ensures.cluster (c.connection.ensures.only (UnknownShard name))
+
+pub returns-clause-bad_schema_when : goal.returns-clause-bad_schema_when
+returns-clause-bad_schema_when g c folder name line words =
+    subst (λ t. IfSome t (λ k. IfSome (g.I.Source.left c.args.input.now) (λ input. IsDue k input (BadSchema name line) → IsOutside c.connection.result ⊎ (c.connection.result ≡ (BadSchema name line)))))
+    c.point.ensures.cluster (c.connection.ensures.only (BadSchema name line))
 
 pub returns-clause-purged_when : goal.returns-clause-purged_when
 returns-clause-purged_when g c folder name missing words =

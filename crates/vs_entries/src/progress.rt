@@ -1,0 +1,456 @@
+//! What the events of a log, from the first on, have come to.
+ghost use Rattle.std.specs.Prelude.{◌≡◌, ◌≤◌, ◌+◌, ◌++◌, ◌∷◌, [], IfOk, None, Ok, OnErr, OnOk, length, true};
+ghost use Rattle.vs_binlog.specs.Heads.{length_of};
+ghost use Rattle.vs_log.specs.Events.{last_place, limit, sort_of};
+ghost use Rattle.vs_log.specs.Meaning.{front, head_refusal};
+ghost use Rattle.vs_log.specs.Table.{bytes_with, ended, line, size, step};
+
+use crate::body::{format_fault, named_gtid, read_base};
+use crate::event::{body_of, sort_in};
+use crate::front::LAST_PLACE;
+use crate::query::read_statement;
+use crate::refusal::Refusal;
+use crate::row::{read_rows, refused};
+use crate::standing::Standing;
+use std::alloc::Global;
+use std::mem::replace;
+use vs_base::{Change, Gtid, List, OutOfMemory, Why};
+use vs_binlog::{Step, next_event, read_head};
+use vs_gtid::{GtidRefusal, GtidSet};
+use vs_journal::{Entry, Work};
+use vs_log::{Sort, Statement};
+use vs_rows::Maps;
+use vs_schema::Schema;
+
+/// The greatest number of bytes of an event, and of the events of an entry together.
+const LIMIT: u64 = 8_388_608;
+
+/// What the events of a log so far have come to, but for the entries that ended.
+#[derive(Debug, Drop)]
+pub struct Progress {
+    pub base: GtidSet,
+    /// the base and all GTIDs that stood so far
+    pub known: GtidSet,
+    pub standing: Standing,
+    /// what the table maps of the open transaction told
+    pub maps: Maps,
+    /// the changes of the open transaction
+    pub changes: List<Change>,
+}
+
+/// Appends changes to those of a transaction, or leaves them as they were.
+fn append_changes(
+    alloc: Global,
+    changes: &mut List<Change>,
+    more: List<Change>,
+) -> Result<(), OutOfMemory>
+    ensures ok { OnOk result (changes.new ≡ changes.old ++ more) }
+    ensures err { OnErr result (changes.new ≡ changes.old) }
+{
+    let mut all = replace(changes, List::new(alloc)).into_vec();
+    let mut more = more.into_vec();
+    let appended = all.append(&mut more);
+    *changes = List::from_vec(all);
+    appended
+}
+
+impl Progress {
+    ghost use Rattle.vs_log.specs.declared.state.Place.TheVariants.{Between, Front, Inside, Named};
+    ghost use Rattle.vs_gtid.specs.declared.entry.Work.TheVariants.{Rows};
+    ghost use Rattle.vs_entries.specs.Reading.{
+      Moves,
+      Takes,
+      any_rules,
+      is_early,
+      no_schema,
+      state_of,
+      with_entries,
+      with_gtid,
+      with_later_query,
+      with_previous,
+      with_query,
+      with_rows,
+      with_table_map,
+      with_xid,
+    };
+    ghost use Rattle.vs_entries.specs.Rules.{rules_of};
+
+    pub fn new(alloc: Global) -> Progress
+        ensures { state_of result ≡ front }
+    {
+        Progress {
+            base: GtidSet::new(alloc),
+            known: GtidSet::new(alloc),
+            standing: Standing::Front,
+            maps: Maps::new(alloc),
+            changes: List::new(alloc),
+        }
+    }
+
+    /// The bytes of the entry that is open.
+    fn size(&self) -> u32
+        ensures { result ≡ size (state_of self.now).place }
+    {
+        match self.standing {
+            Standing::Front => 0,
+            Standing::Between { .. } => 0,
+            Standing::Named { bytes, .. } => bytes,
+            Standing::Inside { bytes, .. } => bytes,
+        }
+    }
+
+    /// The bytes that an event makes with the entry that is open, or alone where it is passed over.
+    #[tactic(auto, unfolding(vs_log::specs::Table::bytes_with), using(crate::proofs::Lines::sum_with_counted))]
+    fn bytes_with(&self, event: &[u8]) -> u64
+        requires { 19 ≤ length event.now }
+        ensures { result ≡ bytes_with (state_of self.now).place event.now }
+    {
+        let length = read_head(event).length as u64;
+        match sort_in(event) {
+            Sort::PassedOver => length,
+            _ => self.size() as u64 + length,
+        }
+    }
+
+    /// What is wrong with an event of which not all bytes are there, by its head alone.
+    #[tactic(auto, unfolding(vs_log::specs::Meaning::head_refusal))]
+    pub fn head_fault(&self, rest: &[u8], at: usize) -> Option<Why>
+        requires { at ≤ last_place }
+        ensures { result ≡ head_refusal at (state_of self.now).place rest.now }
+    {
+        let length = match next_event(rest) {
+            Step::Short => return None,
+            Step::Bad { length } => return Some(Why::BadLength { length }),
+            Step::Event(head) => head.length,
+        };
+        let bytes = self.bytes_with(rest);
+        if bytes > LIMIT {
+            return Some(Why::TooLarge { bytes });
+        }
+        if at as u64 + length as u64 > LAST_PLACE {
+            return Some(Why::TooLarge {
+                bytes: length as u64,
+            });
+        }
+        None
+    }
+
+    /// Takes an event, and gives the entry that ends with it; or leaves all as it was.
+    #[tactic(auto, unfolding(vs_log::specs::Table::step))]
+    pub fn take(
+        &mut self,
+        alloc: Global,
+        event: &[u8],
+        keyspace: &[u8],
+        schema: &Schema,
+    ) -> Result<Option<Entry>, Refusal>
+        requires { 19 ≤ length event.now }
+        ensures takes { Takes result self.old self.new (step (rules_of keyspace.now schema.now) (state_of self.old) event.now) }
+        ensures early { is_early self.old.standing ≡ true → IfOk result (λ o. o ≡ None) }
+    {
+        let bytes = self.bytes_with(event);
+        if bytes > LIMIT {
+            return Err(Refusal::Wrong(Why::TooLarge { bytes }));
+        }
+        match self.standing {
+            Standing::Front => {
+                self.take_first(event)?;
+                Ok(None)
+            }
+            Standing::Between { first } => {
+                self.take_between(alloc, event, first)?;
+                Ok(None)
+            }
+            Standing::Named { gtid, bytes } => self.take_named(alloc, event, keyspace, gtid, bytes),
+            Standing::Inside { gtid, bytes } => {
+                self.take_inside(alloc, event, keyspace, schema, gtid, bytes)
+            }
+        }
+    }
+
+    /// Takes the first event of a log.
+    #[tactic(auto, using(crate::proofs::Lines::line_front_other))]
+    fn take_first(&mut self, event: &[u8]) -> Result<(), Refusal>
+        requires { 19 ≤ length event.now }
+        ensures { Moves result self.old self.new (line any_rules (state_of self.old) event.now Front (sort_of event.now)) }
+    {
+        match sort_in(event) {
+            Sort::FormatEvent => match format_fault(body_of(event)) {
+                Some(why) => Err(Refusal::Wrong(why)),
+                None => {
+                    self.standing = Standing::Between { first: true };
+                    Ok(())
+                }
+            },
+            _ => Err(Refusal::Wrong(Why::NoFormat)),
+        }
+    }
+
+    /// Takes an event between entries.
+    fn take_between(&mut self, alloc: Global, event: &[u8], first: bool) -> Result<(), Refusal>
+        requires { 19 ≤ length event.now }
+        ensures { Moves result self.old self.new (line any_rules (state_of self.old) event.now (Between first) (sort_of event.now)) }
+    {
+        match sort_in(event) {
+            Sort::AnonymousEvent => Err(Refusal::Wrong(Why::Anonymous)),
+            Sort::PassedOver => Ok(()),
+            Sort::PreviousEvent if first => self.take_base(alloc, event),
+            Sort::GtidEvent => self.take_gtid(event),
+            Sort::ForeignEvent => Err(Refusal::Wrong(Why::Unsupported {
+                kind: read_head(event).kind,
+            })),
+            _ => Err(Refusal::Wrong(Why::BadOrder {
+                kind: read_head(event).kind,
+            })),
+        }
+    }
+
+    /// Takes an event behind the GTID event of an entry.
+    #[tactic(auto, unfolding(vs_log::specs::Table::bytes_with), using(crate::proofs::Lines::sum_with_counted))]
+    fn take_named(
+        &mut self,
+        alloc: Global,
+        event: &[u8],
+        keyspace: &[u8],
+        gtid: Gtid,
+        bytes: u32,
+    ) -> Result<Option<Entry>, Refusal>
+        requires head { 19 ≤ length event.now }
+        requires size { bytes_with (Named gtid bytes) event.now ≤ limit }
+        ensures { Takes result self.old self.new (line (rules_of keyspace.now no_schema) (state_of self.old) event.now (Named gtid bytes) (sort_of event.now)) }
+    {
+        match sort_in(event) {
+            Sort::AnonymousEvent => Err(Refusal::Wrong(Why::Anonymous)),
+            Sort::PassedOver => Ok(None),
+            Sort::QueryEvent => self.take_query(alloc, event, keyspace, gtid, bytes),
+            Sort::ForeignEvent => Err(Refusal::Wrong(Why::Unsupported {
+                kind: read_head(event).kind,
+            })),
+            _ => Err(Refusal::Wrong(Why::BadOrder {
+                kind: read_head(event).kind,
+            })),
+        }
+    }
+
+    /// Takes an event inside a transaction.
+    #[tactic(auto, unfolding(vs_log::specs::Table::bytes_with), using(crate::proofs::Lines::sum_with_counted))]
+    fn take_inside(
+        &mut self,
+        alloc: Global,
+        event: &[u8],
+        keyspace: &[u8],
+        schema: &Schema,
+        gtid: Gtid,
+        bytes: u32,
+    ) -> Result<Option<Entry>, Refusal>
+        requires head { 19 ≤ length event.now }
+        requires size { bytes_with (Inside gtid bytes self.old.maps (Rows self.old.changes)) event.now ≤ limit }
+        ensures { Takes result self.old self.new (line (rules_of keyspace.now schema.now) (state_of self.old) event.now (Inside gtid bytes self.old.maps (Rows self.old.changes)) (sort_of event.now)) }
+    {
+        match sort_in(event) {
+            Sort::AnonymousEvent => Err(Refusal::Wrong(Why::Anonymous)),
+            Sort::PassedOver => Ok(None),
+            Sort::QueryEvent => self.take_later_query(alloc, event, keyspace, gtid, bytes),
+            Sort::XidEvent => self.take_xid(alloc, event, gtid),
+            Sort::MapEvent => {
+                self.take_table_map(event, keyspace, schema, gtid, bytes)?;
+                Ok(None)
+            }
+            Sort::RowsEvent => {
+                self.take_rows(alloc, event, keyspace, gtid, bytes)?;
+                Ok(None)
+            }
+            Sort::ForeignEvent => Err(Refusal::Wrong(Why::Unsupported {
+                kind: read_head(event).kind,
+            })),
+            _ => Err(Refusal::Wrong(Why::BadOrder {
+                kind: read_head(event).kind,
+            })),
+        }
+    }
+
+    /// Takes a PREVIOUS_GTIDS event.
+    fn take_base(&mut self, alloc: Global, event: &[u8]) -> Result<(), Refusal>
+        requires { 19 ≤ length event.now }
+        ensures { Moves result self.old self.new (with_previous (state_of self.old) event.now) }
+    {
+        let base = read_base(alloc, body_of(event))?;
+        let known = base.copy(alloc)?;
+        self.base = base;
+        self.known = known;
+        self.standing = Standing::Between { first: false };
+        Ok(())
+    }
+
+    /// Takes a GTID event, which begins an entry.
+    fn take_gtid(&mut self, event: &[u8]) -> Result<(), Refusal>
+        requires { 19 ≤ length event.now }
+        ensures { Moves result self.old self.new (with_gtid (state_of self.old) event.now) }
+    {
+        let gtid = match named_gtid(body_of(event)) {
+            Ok(gtid) => gtid,
+            Err(why) => return Err(Refusal::Wrong(why)),
+        };
+        if self.known.contains(&gtid) {
+            return Err(Refusal::Wrong(Why::RepeatedGtid { gtid }));
+        }
+        match self.known.add(gtid) {
+            Ok(()) => {
+                self.standing = Standing::Named {
+                    gtid,
+                    bytes: read_head(event).length,
+                };
+                Ok(())
+            }
+            Err(GtidRefusal::TooManyIntervals) => Err(Refusal::Wrong(Why::TooManyIntervals)),
+            Err(_) => Err(Refusal::Memory),
+        }
+    }
+
+    /// Takes a query event behind the GTID event of an entry.
+    fn take_query(
+        &mut self,
+        alloc: Global,
+        event: &[u8],
+        keyspace: &[u8],
+        gtid: Gtid,
+        bytes: u32,
+    ) -> Result<Option<Entry>, Refusal>
+        requires head { 19 ≤ length event.now }
+        requires size { bytes + length_of event.now ≤ limit }
+        ensures { Takes result self.old self.new (with_query keyspace.now (state_of self.old) event.now gtid bytes) }
+    {
+        match read_statement(alloc, body_of(event), keyspace)? {
+            Statement::Begin => {
+                self.maps.clear();
+                self.changes = List::new(alloc);
+                self.standing = Standing::Inside {
+                    gtid,
+                    bytes: bytes + read_head(event).length,
+                };
+                Ok(None)
+            }
+            Statement::Xa => Err(Refusal::Wrong(Why::UnsupportedStatement)),
+            Statement::Commit => Ok(Some(self.end_entry(event, gtid, Work::Other))),
+            Statement::Savepoint => Ok(Some(self.end_entry(event, gtid, Work::Other))),
+            Statement::Single(work) => Ok(Some(self.end_entry(event, gtid, work))),
+        }
+    }
+
+    /// Takes a query event inside a transaction.
+    fn take_later_query(
+        &mut self,
+        alloc: Global,
+        event: &[u8],
+        keyspace: &[u8],
+        gtid: Gtid,
+        bytes: u32,
+    ) -> Result<Option<Entry>, Refusal>
+        requires head { 19 ≤ length event.now }
+        requires size { bytes + length_of event.now ≤ limit }
+        ensures { Takes result self.old self.new (with_later_query keyspace.now (state_of self.old) event.now gtid bytes self.old.maps self.old.changes) }
+    {
+        match read_statement(alloc, body_of(event), keyspace)? {
+            Statement::Commit => Ok(Some(self.end_transaction(alloc, event, gtid))),
+            Statement::Savepoint => {
+                self.standing = Standing::Inside {
+                    gtid,
+                    bytes: bytes + read_head(event).length,
+                };
+                Ok(None)
+            }
+            Statement::Begin => Err(Refusal::Wrong(Why::NestedBegin)),
+            Statement::Xa => Err(Refusal::Wrong(Why::UnsupportedStatement)),
+            Statement::Single(work) => {
+                drop(work);
+                Err(Refusal::Wrong(Why::UnsupportedStatement))
+            }
+        }
+    }
+
+    /// Takes an XID event, which ends a transaction.
+    fn take_xid(
+        &mut self,
+        alloc: Global,
+        event: &[u8],
+        gtid: Gtid,
+    ) -> Result<Option<Entry>, Refusal>
+        requires { 19 ≤ length event.now }
+        ensures { Takes result self.old self.new (with_xid (state_of self.old) event.now gtid self.old.changes) }
+    {
+        if body_of(event).len() < 8 {
+            return Err(Refusal::Wrong(Why::BadEvent { kind: 16 }));
+        }
+        Ok(Some(self.end_transaction(alloc, event, gtid)))
+    }
+
+    /// Takes a table map.
+    fn take_table_map(
+        &mut self,
+        event: &[u8],
+        keyspace: &[u8],
+        schema: &Schema,
+        gtid: Gtid,
+        bytes: u32,
+    ) -> Result<(), Refusal>
+        requires head { 19 ≤ length event.now }
+        requires size { bytes + length_of event.now ≤ limit }
+        ensures { Moves result self.old self.new (with_table_map keyspace.now schema.now (state_of self.old) event.now gtid bytes self.old.maps self.old.changes) }
+    {
+        match self.maps.put(body_of(event), schema, keyspace) {
+            Ok(()) => {
+                self.standing = Standing::Inside {
+                    gtid,
+                    bytes: bytes + read_head(event).length,
+                };
+                Ok(())
+            }
+            Err(refusal) => Err(refused(19, refusal)),
+        }
+    }
+
+    /// Takes a rows event.
+    fn take_rows(
+        &mut self,
+        alloc: Global,
+        event: &[u8],
+        keyspace: &[u8],
+        gtid: Gtid,
+        bytes: u32,
+    ) -> Result<(), Refusal>
+        requires head { 19 ≤ length event.now }
+        requires size { bytes + length_of event.now ≤ limit }
+        ensures { Moves result self.old self.new (with_rows keyspace.now (state_of self.old) event.now gtid bytes self.old.maps self.old.changes) }
+    {
+        let kind = read_head(event).kind;
+        let more = read_rows(alloc, &self.maps, kind, body_of(event), keyspace)?;
+        append_changes(alloc, &mut self.changes, more)?;
+        self.standing = Standing::Inside {
+            gtid,
+            bytes: bytes + read_head(event).length,
+        };
+        Ok(())
+    }
+
+    /// Ends the open transaction with its last event.
+    fn end_transaction(&mut self, alloc: Global, event: &[u8], gtid: Gtid) -> Entry
+        requires { 19 ≤ length event.now }
+        ensures { ended (state_of self.old) event.now gtid (Rows self.old.changes) ≡ with_entries (result ∷ []) (state_of self.new) }
+    {
+        let changes = replace(&mut self.changes, List::new(alloc));
+        self.end_entry(event, gtid, Work::Rows(changes))
+    }
+
+    /// Ends the open entry with its last event.
+    fn end_entry(&mut self, event: &[u8], gtid: Gtid, work: Work) -> Entry
+        requires { 19 ≤ length event.now }
+        ensures { ended (state_of self.old) event.now gtid work ≡ with_entries (result ∷ []) (state_of self.new) }
+    {
+        self.standing = Standing::Between { first: false };
+        Entry {
+            gtid,
+            time: read_head(event).time,
+            work,
+        }
+    }
+}

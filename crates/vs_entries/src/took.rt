@@ -1,0 +1,22 @@
+use thiserror::Error;
+use vs_base::Why;
+use vs_journal::Entry;
+
+/// What a reader gives.
+#[derive(Debug, Drop)]
+pub enum Took {
+    /// the next entry, and the place of its GTID event in the log
+    Entry { entry: Entry, at: u64 },
+    /// No entry is whole: the rest begins one, or is nothing.
+    More,
+}
+
+/// Why a reader gives no entry.
+#[derive(Debug, Drop, PartialEq, Eq, Error)]
+pub enum LogRefusal {
+    /// The event at this byte of the log is at fault.
+    #[error("bad log")]
+    BadLog { offset: u64, why: Why },
+    #[error("out of memory")]
+    Memory,
+}

@@ -1,0 +1,169 @@
+//! A walk over the events of a log's bytes, of which more may come.
+ghost use Rattle.std.specs.Prelude.{◌≡◌, ◌≤◌, ◌⊎◌, IfOk, OnErr, OnOk, length, true};
+ghost use Rattle.vs_log.specs.Events.{last_place};
+ghost use Rattle.vs_log.specs.Meaning.{has_magic};
+
+use crate::front::front_event;
+use crate::progress::Progress;
+use crate::refusal::Refusal;
+use crate::standing::Standing;
+use std::alloc::{AllocError, Global};
+use vs_base::{OutOfMemory, Why};
+use vs_journal::Entry;
+use vs_schema::Schema;
+
+/// The bytes with which a log begins.
+const MAGIC: [u8; 4] = [0xfe, 0x62, 0x69, 0x6e];
+
+/// Where a walk stands.
+#[derive(Debug, Drop)]
+pub struct Walk {
+    /// the place of the next event
+    pub at: usize,
+    /// the place of the last event that was taken where no entry was open
+    pub begun: usize,
+    /// how many entries ended
+    pub given: usize,
+    pub progress: Progress,
+}
+
+/// What a walk comes to.
+#[derive(Debug, Drop)]
+pub enum Next {
+    /// An entry ends.
+    Gave(Entry),
+    /// No whole event is left, or the next one is at fault.
+    Ended(Option<Why>),
+}
+
+impl Walk {
+    ghost use Rattle.vs_entries.specs.Reading.{is_early};
+    ghost use Rattle.vs_entries.specs.Walks.{IsFresh, IsStuck, IsWalk, Reads, Stands, Turned};
+    ghost use Rattle.vs_entries.specs.Rules.{rules_of};
+
+    /// A walk that stands behind the magic.
+    pub fn new(alloc: Global) -> Walk
+        ensures { IsFresh result }
+    {
+        Walk {
+            at: MAGIC.len(),
+            begun: 0,
+            given: 0,
+            progress: Progress::new(alloc),
+        }
+    }
+
+    /// Takes the next event of the bytes, if it is whole.
+    pub fn take_turn(
+        &mut self,
+        alloc: Global,
+        bytes: &[u8],
+        keyspace: &[u8],
+        schema: &Schema,
+    ) -> Result<Option<Next>, OutOfMemory>
+        requires place { self.old.at ≤ length bytes.now }
+        requires early { self.old.at ≤ last_place }
+        requires few { self.old.given ≤ self.old.at }
+        ensures { Turned (rules_of keyspace.now schema.now) bytes.now self.old self.new result }
+    {
+        let at = self.at;
+        let rest = &bytes[at..];
+        let Some(event) = front_event(rest, at) else {
+            return Ok(Some(Next::Ended(self.progress.head_fault(rest, at))));
+        };
+        let begun = match self.progress.standing {
+            Standing::Front => at,
+            Standing::Between { .. } => at,
+            Standing::Named { .. } => self.begun,
+            Standing::Inside { .. } => self.begun,
+        };
+        match self.progress.take(alloc, event, keyspace, schema) {
+            Ok(ended) => {
+                self.begun = begun;
+                self.at = at + event.len();
+                match ended {
+                    None => Ok(None),
+                    Some(entry) => {
+                        self.given += 1;
+                        Ok(Some(Next::Gave(entry)))
+                    }
+                }
+            }
+            Err(Refusal::Wrong(why)) => Ok(Some(Next::Ended(Some(why)))),
+            Err(Refusal::Memory) => Err(AllocError),
+        }
+    }
+
+    /// Goes on to the end of the next entry, or as far as events are whole and in order.
+    pub fn read_entry(
+        &mut self,
+        alloc: Global,
+        bytes: &[u8],
+        keyspace: &[u8],
+        schema: &Schema,
+    ) -> Result<Next, OutOfMemory>
+        requires { Stands (rules_of keyspace.now schema.now) bytes.now self.old }
+        ensures stands { Stands (rules_of keyspace.now schema.now) bytes.now self.new }
+        ensures reads { Reads (rules_of keyspace.now schema.now) bytes.now self.old self.new result }
+        ensures early { is_early self.new.progress.standing ≡ true → is_early self.old.progress.standing ≡ true }
+        ensures given { is_early self.new.progress.standing ≡ true → self.new.given ≡ self.old.given }
+        ensures stuck { IsStuck (rules_of keyspace.now schema.now) bytes.now self.old → IsStuck (rules_of keyspace.now schema.now) bytes.now self.new }
+    {
+        'events: loop {
+            match self.take_turn(alloc, bytes, keyspace, schema) {
+                Ok(None) => {}
+                Ok(Some(next)) => return Ok(next),
+                Err(error) => return Err(error),
+            }
+        }
+    }
+
+    /// Goes on up to the first event that tells of the base; whether that one is refused. Where memory
+    /// runs out, the walk begins again.
+    pub fn read_front(
+        &mut self,
+        alloc: Global,
+        bytes: &[u8],
+        keyspace: &[u8],
+        schema: &Schema,
+    ) -> Result<bool, OutOfMemory>
+        requires early { is_early self.old.progress.standing ≡ true }
+        requires given { self.old.given ≡ 0 }
+        requires stands { IsFresh self.old ⊎ Stands (rules_of keyspace.now schema.now) bytes.now self.old }
+        ensures ok { IfOk result (λ refused. IsWalk (rules_of keyspace.now schema.now) bytes.now self.new refused) }
+        ensures given { OnOk result (self.new.given ≡ self.old.given) }
+        ensures err { OnErr result (IsFresh self.new) }
+    {
+        if bytes.len() < MAGIC.len() {
+            return Ok(false);
+        }
+        if !begins_as_log(bytes) {
+            return Ok(false);
+        }
+        'events: loop {
+            match self.take_turn(alloc, bytes, keyspace, schema) {
+                Ok(None) => {
+                    if !self.progress.standing.is_early() {
+                        return Ok(false);
+                    }
+                }
+                Ok(Some(Next::Gave(_))) => unreachable!(),
+                Ok(Some(Next::Ended(why))) => return Ok(self.progress.standing.is_refused(&why)),
+                Err(error) => {
+                    *self = Walk::new(alloc);
+                    return Err(error);
+                }
+            }
+        }
+    }
+}
+
+/// Whether each of the first four bytes that is there is that of the magic.
+pub fn begins_as_log(bytes: &[u8]) -> bool
+    ensures { result ≡ has_magic bytes.now }
+{
+    if bytes.len() < 4 {
+        return bytes == &MAGIC[..bytes.len()];
+    }
+    bytes[..4] == MAGIC[..]
+}

@@ -1,0 +1,9 @@
+//! The entries of a shard's log, and the journals among them.
+//!
+//! `JournalValue` and `Successor` stand in `vs_gtid`: a journal names positions.
+#![tactic(auto)]
+
+#[cfg(test)]
+mod tests;
+
+pub use vs_gtid::{Entry, JournalValue, Successor, Work};
