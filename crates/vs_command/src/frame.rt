@@ -15,7 +15,7 @@ ghost use Rattle.vs_command.specs.Spelling.{
 
 use std::alloc::{AllocError, Global};
 use vs_base::{List, OutOfMemory, ShardName, Text};
-use vs_frame::put_frame;
+use vs_frame::{HEADER, LIMIT, put_frame};
 use vs_gtid::GtidSet;
 use vs_journal::{Entry, Work};
 use vs_proto::{ShardGtid, VEvent, VGtid, VStreamResponse, write_response};
@@ -30,12 +30,6 @@ const DDL_EVENT: i32 = 5;
 const OTHER_EVENT: i32 = 11;
 
 const VGTID_EVENT: i32 = 15;
-
-/// The most bytes that a frame's message may have.
-const LIMIT: usize = 16_777_216;
-
-/// The bytes of a message's length in front of it.
-const HEADER: usize = 4;
 
 /// Room for the text of a position of one interval, so that it need not grow.
 const SHORT_POSITION: usize = 96;
@@ -152,7 +146,7 @@ pub fn entry_frame(
     let events = List::from_vec(entry_events(alloc, name, entry, position)?);
     let mut message = Vec::new(alloc);
     write_response(alloc, &mut message, &VStreamResponse { events })?;
-    if message.len() > LIMIT {
+    if message.len() > LIMIT as usize {
         return Err(AllocError);
     }
     let mut frame = Vec::with_capacity(alloc, message.len() + HEADER)?;

@@ -41,6 +41,7 @@ use crate::start::Start;
 use crate::status::RequestFault;
 use std::alloc::Global;
 use vs_base::ShardName;
+use vs_frame::LIMIT;
 use vs_outside::{Failed, Source};
 use vs_request::{Flags, Request, RequestRefusal, StartAt, Wanted};
 
@@ -62,9 +63,6 @@ pub struct Asked {
 
 /// How many bytes a read asks for, at most.
 const READ_SIZE: usize = 65536;
-
-/// The most bytes that a message may have.
-const LIMIT: u32 = 16_777_216;
 
 /// Takes so many bytes, or all that are left where they are fewer.
 fn take_bytes<I: Source>(alloc: Global, input: &mut I, count: usize) -> Result<Vec<u8>, RequestEnd>

@@ -19,7 +19,7 @@ use Rattle.vs_log.specs.declared.State.{State}
 use Rattle.vs_binlog.specs.Heads.{Event, body_of, kind_of}
 use Rattle.vs_binlog.specs.Bodies.{Said, query_body}
 use Rattle.vs_binlog.specs.Words.{first_word}
-use Rattle.vs_log.specs.Queries.{statement_of, statement_by, said, is_ddl, schema_of, word_begin, word_commit, word_savepoint, word_xa}
+use Rattle.vs_log.specs.Queries.{statement_of, statement_by, said, is_ddl, word_begin, word_commit, word_savepoint, word_xa}
 use Rattle.vs_log.specs.Table.{single_work}
 use Rattle.vs_log.specs.Meaning.{log_meant}
 use Rattle.vs_log.specs.Productions.{AreEntries, Begins, IsMiddle, IsSingle, IsTransaction, IsWork, Means}
@@ -29,7 +29,7 @@ use Rattle.vs_rows.specs.declared.refusal.RowRefusal.{RowRefusal}
 use Rattle.vs_rows.specs.declared.outcome.RowsOf.{RowsOf}
 use Rattle.vs_rows.specs.declared.outcome.RowsOf.TheVariants as told
 use Rattle.vs_rows.specs.Rows.{rows_meant}
-use Rattle.vs_rows.specs.Tables.{Tables}
+use Rattle.vs_rows.specs.Tables.{Tables, schema_of}
 use Rattle.vs_base.specs.declared.change.Change.{Change}
 use Rattle.vs_entries.specs.Rules.{counted_by, rules_of, tells_journal, IsNoJournal}
 

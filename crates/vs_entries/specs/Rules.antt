@@ -20,11 +20,11 @@ use Rattle.vs_rows.specs.declared.refusal.RowRefusal.{RowRefusal}
 use Rattle.vs_rows.specs.declared.refusal.RowRefusal.TheVariants as row
 use Rattle.vs_rows.specs.declared.outcome.RowsOf.{RowsOf}
 use Rattle.vs_rows.specs.declared.outcome.RowsOf.TheVariants as told
-use Rattle.vs_rows.specs.Tables.{with_map}
+use Rattle.vs_rows.specs.Tables.{schema_of, with_map}
 use Rattle.vs_rows.specs.Rows.{rows_meant}
 use Rattle.vs_log.specs.declared.state.Counted.{Counted}
 use Rattle.vs_log.specs.declared.state.Counted.TheVariants.{Changed}
-use Rattle.vs_log.specs.Queries.{schema_of, statement_of}
+use Rattle.vs_log.specs.Queries.{statement_of}
 use Rattle.vs_log.specs.Table.{Rules, ◌>>=◌}
 
 -- the work is no journal

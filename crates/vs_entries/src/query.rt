@@ -1,7 +1,6 @@
-ghost use Rattle.std.specs.Prelude.{◌≡◌, IfOk, map, nat_eq};
-ghost use Rattle.std.specs.Cmp.Lexicographic.{pointwise};
+ghost use Rattle.std.specs.Prelude.{◌≡◌, IfOk, map};
 ghost use Rattle.vs_binlog.specs.Words.{first_word, upper};
-ghost use Rattle.vs_log.specs.Queries.{is_ddl, said, schema_of, statement_of};
+ghost use Rattle.vs_log.specs.Queries.{is_ddl, said, statement_of};
 ghost use Rattle.vs_entries.specs.Reading.{Answers};
 
 use crate::refusal::Refusal;
@@ -10,6 +9,7 @@ use vs_base::{OutOfMemory, Text, Why};
 use vs_binlog::{first_word, is_same_word, read_query};
 use vs_journal::Work;
 use vs_log::Statement;
+use vs_rows::is_schema_of;
 
 /// What the body of a query event says in the log of a shard of the keyspace.
 #[tactic(auto, unfolding(vs_log::specs::Queries::statement_of))]
@@ -63,14 +63,4 @@ fn changes_schemas(word: &[u8]) -> bool
         return true;
     }
     is_same_word(word, b"RENAME")
-}
-
-/// Whether the schema is `vt_` and the keyspace.
-pub fn is_schema_of(schema: &[u8], keyspace: &[u8]) -> bool
-    ensures { result ≡ pointwise nat_eq schema.now (schema_of keyspace.now) }
-{
-    match schema {
-        [b'v', b't', b'_', name @ ..] => name == keyspace,
-        _ => false,
-    }
 }

@@ -5,11 +5,10 @@ ghost use Rattle.vs_rows.specs.Rows.{rows_meant};
 ghost use Rattle.vs_entries.specs.Reading.{Counts, refusal_of};
 ghost use Rattle.vs_entries.specs.Rules.{counted_by, is_of_keyspace, tells_journal};
 
-use crate::query::is_schema_of;
 use crate::refusal::Refusal;
 use std::alloc::Global;
 use vs_base::{Cell, Change, List, Why};
-use vs_rows::{Maps, RowRefusal, RowsOf};
+use vs_rows::{Maps, RowRefusal, RowsOf, is_schema_of};
 
 /// What is told of a table map or a rows event whose body isn't taken. The kind is its type.
 pub fn refused(kind: u8, refusal: RowRefusal) -> Refusal

@@ -19,4 +19,7 @@ pub use refusal::{FrameRefusal, FrameWhy};
 pub type OutOfMemory = std::alloc::AllocError;
 
 /// The most bytes that a message may have.
-const LIMIT: u32 = 16_777_216;
+pub const LIMIT: u32 = 16_777_216;
+
+/// The bytes of a message's length in front of it.
+pub const HEADER: usize = 4;

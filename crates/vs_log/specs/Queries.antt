@@ -7,6 +7,7 @@ use Rattle.vs_base.specs.declared.Why.TheVariants.{BadEvent}
 use Rattle.vs_binlog.specs.Bodies.{Said, query_body}
 use Rattle.vs_binlog.specs.Words.{first_word}
 use Rattle.vs_gtid.specs.declared.Work.TheVariants.{Ddl, Other}
+use Rattle.vs_rows.specs.Tables.{schema_of}
 use Rattle.vs_log.specs.declared.state.Statement.{Statement}
 use Rattle.vs_log.specs.declared.state.Statement.TheVariants.{Begin, Commit, Savepoint, Xa, Single}
 
@@ -51,10 +52,6 @@ word_rename = 82 ∷ (69 ∷ (78 ∷ (65 ∷ (77 ∷ (69 ∷ [])))))
 
 abbrev pub is_ddl : List ℕ → Bool
 is_ddl word = is_one_of (word_create ∷ (word_alter ∷ (word_drop ∷ (word_truncate ∷ (word_rename ∷ []))))) word
-
--- `vt_` and the keyspace
-abbrev pub schema_of : List ℕ → List ℕ
-schema_of keyspace = 118 ∷ (116 ∷ (95 ∷ keyspace))
 
 abbrev pub said : List ℕ → List ℕ → List ℕ → List ℕ → Statement
 said keyspace schema text word =

@@ -5,6 +5,7 @@ mod bits;
 mod columns;
 mod fault;
 mod image;
+mod keyspace;
 mod kind;
 mod laws;
 mod layout;
@@ -16,6 +17,7 @@ mod table;
 #[cfg(test)]
 mod tests;
 
+pub use keyspace::is_schema_of;
 pub use laws::{law_columns, law_layouts, law_rows, law_tables};
 pub use maps::Maps;
 pub use outcome::RowsOf;

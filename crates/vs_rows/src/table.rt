@@ -10,7 +10,6 @@ ghost use Rattle.vs_rows.specs.Tables.{
   map_by,
   map_meant,
   map_typed,
-  schema_of,
   table_by,
 };
 ghost use Rattle.vs_rows.specs.Columns.{journal_columns, row_columns, wanted};
@@ -22,6 +21,7 @@ use crate::columns::{
     wanted_columns,
 };
 use crate::fault::Fault;
+use crate::keyspace::is_schema_of;
 use crate::layout::{MapBody, read_map};
 use std::alloc::Global;
 use vs_base::{List, Text};
@@ -122,16 +122,6 @@ fn agreeing(
         Ok(columns) => Ok(RowTable { name, columns }),
         Err(Fault::Wrong) => Err(RowRefusal::Disagrees { table: name }),
         Err(Fault::Memory) => Err(RowRefusal::Memory),
-    }
-}
-
-/// Whether the schema is `vt_` and the keyspace.
-fn is_schema_of(schema: &[u8], keyspace: &[u8]) -> bool
-    ensures { result ≡ same schema.now (schema_of keyspace.now) }
-{
-    match schema {
-        [b'v', b't', b'_', name @ ..] => name == keyspace,
-        _ => false,
     }
 }
 

@@ -1,4 +1,6 @@
-use crate::{Maps, RowRefusal, RowsOf, law_columns, law_layouts, law_rows, law_tables};
+use crate::{
+    Maps, RowRefusal, RowsOf, is_schema_of, law_columns, law_layouts, law_rows, law_tables,
+};
 use std::alloc::{AllocError, Global};
 use std::process::Abort;
 use std::test::Fail;
@@ -334,6 +336,13 @@ fn wide_tables(rt: HostRuntime) -> Result<(), Fail> {
         let outcome = wide_rows(alloc, count, packed)?;
         assert_eq!(rt; outcome, wide_text(alloc, count)?);
     }
+    Ok(())
+}
+
+#[test]
+fn a_keyspace_has_one_schema(rt: HostRuntime) -> Result<(), Fail> {
+    assert!(rt; is_schema_of(b"vt_c", b"c"));
+    assert!(rt; !is_schema_of(b"vt_cd", b"c"));
     Ok(())
 }
 
