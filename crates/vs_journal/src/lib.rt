@@ -3,7 +3,9 @@
 //! `JournalValue` and `Successor` stand in `vs_gtid`: a journal names positions.
 #![tactic(auto)]
 
+mod laws;
 #[cfg(test)]
 mod tests;
 
+pub use laws::{law_few_names, law_names};
 pub use vs_gtid::{Entry, JournalValue, Successor, Work};

@@ -1,4 +1,4 @@
-use crate::{Entry, JournalValue, Work};
+use crate::{Entry, JournalValue, Work, law_few_names, law_names};
 use std::test::Fail;
 use vs_base::{Gtid, List};
 
@@ -16,6 +16,8 @@ fn an_entry_may_tell_a_journal(rt: HostRuntime) -> Result<(), Fail> {
         time: 100,
         work: Work::Journal(journal),
     };
+    law_names();
+    law_few_names();
     let copy = entry.copy(alloc)?;
     assert_eq!(rt; copy.gtid, entry.gtid);
     assert!(rt; matches!(&copy.work, Work::Journal(told) if told.id == 7));

@@ -1,0 +1,14 @@
+//! What journals keep to, as contracts of functions that do nothing.
+ghost use Rattle.vs_gtid.specs.declared.journal.JournalValue.{JournalValue};
+ghost use Rattle.vs_journal.specs.Journals.{HasFewNames, StandOnce, participant_names, successor_names};
+
+/// A journal names each participant, and each successor, at one place alone.
+pub fn law_names()
+    ensures participants { (j : JournalValue) → StandOnce (participant_names j) }
+    ensures successors { (j : JournalValue) → StandOnce (successor_names j) }
+{}
+
+/// A journal has at most 64 participants, and at most 64 successors.
+pub fn law_few_names()
+    ensures { (j : JournalValue) → HasFewNames j }
+{}
