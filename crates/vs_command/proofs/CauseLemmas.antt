@@ -15,7 +15,7 @@ use Rattle.vs_command.specs.declared.start.Start.TheVariants.{At, Current}
 use Rattle.vs_command.specs.declared.status.Status.{Status}
 use Rattle.vs_command.specs.declared.status.Status.TheVariants as statuses
 use Rattle.vs_command.specs.Built.{AreBuilt, IsBuilt, built_front, first_unbuilt}
-use Rattle.vs_command.specs.Causes.{CanBeSent, EndsAt, EndsWith, LogAsksFor}
+use Rattle.vs_command.specs.Causes.{CanBeSent, EndsAt, EndsWith, HoldsBase, LogAsksFor}
 use Rattle.vs_command.specs.Sending.{IsTooLargeAlong, StopsAtUnbuilt, lacking}
 use Rattle.vs_command.specs.Streaming.{IsStart, IsUnbuiltFromEnd}
 use Rattle.vs_command.proofs.BuiltLemmas.{front-all, kept, none-unbuilt}
@@ -38,6 +38,11 @@ pub asks_purged : (stands : Gtid → ℕ → Type 0) (s : ShardName) (log : Log)
     LogAsksFor stands s log start (statuses.Purged s missing)
 asks_purged stands s log (At set) whole p missing at first = (refl, subst (λ q. IsFirstMissing log.base q missing) at.is_start first)
 asks_purged stands s log Current whole p missing at first = absurd (none_missing log whole p missing at.is_start first)
+
+-- the base lies in a start, where it lies in the position of the start
+pub holds_base : (log : Log) (start : Start) (whole : Type 0) (p : Position) → StartsAt log start whole p → IsSubset log.base p → HoldsBase log start
+holds_base log (At set) whole p at base = subst (λ q. IsSubset log.base q) at.is_start base
+holds_base log Current whole p at base = tt
 
 can_be_sent : (log : Log) (start : Start) (whole : Type 0) (p : Position) → StartsAt log start whole p → IsSubset log.base p → FitAlong p (built_front (lacking p log.entries)) → CanBeSent log start
 can_be_sent log (At set) whole p at base fit = subst (λ q. CanBeSent log (At q)) at.is_start (record { base = base; room = fit_all p (built_front (lacking p log.entries)) fit })

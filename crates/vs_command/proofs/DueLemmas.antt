@@ -34,11 +34,12 @@ use Rattle.vs_command.specs.declared.status.Status.{Status}
 use Rattle.vs_command.specs.declared.status.Status.TheVariants.{Done, Memory, Usage, Request, UnknownShard, Purged, BadLog, FeedFault, LinkFault, InputFault, OpenFault, PositionTooLarge, BadSchema, BadFrame}
 use Rattle.vs_command.specs.declared.fetched.Fetched.{Fetched}
 use Rattle.vs_command.specs.Built.{built_front, first_unbuilt}
-use Rattle.vs_command.specs.Causes.{AnswersLog, AsksByItsLog, CanBeSent, EndsAt, EndsWith, HasRead, IsDue, IsOutside, LogAsksFor, ShardAsksFor, counted}
+use Rattle.vs_command.specs.Causes.{AnswersLog, AsksByItsLog, CanBeSent, EndsAt, EndsWith, HasRead, HoldsBase, IsDue, IsOutside, LogAsksFor, ShardAsksFor, counted}
 use Rattle.vs_command.specs.Fetched.{IsFetchedOf, IsOfShard, IsPlaced, read_as}
 use Rattle.vs_command.specs.Laws.{Laws}
 use Rattle.vs_command.specs.Requests.{Asks, IsFaultOf, IsFrame, TakesOf}
 use Rattle.vs_command.specs.Sending.{IsTooLargeAlong}
+use Rattle.vs_command.specs.Stages.{HasSchema, IsBrought, IsBroughtOf, IsBroughtOn}
 use Rattle.vs_command.specs.Streaming.{HasBadSchema, IsOfStream, shard_log, shard_places, shard_rules}
 use Rattle.vs_command.proofs.BuiltLemmas.{placed_so}
 use Rattle.vs_command.proofs.CauseLemmas.{LogAsksFor-weaken}
@@ -71,17 +72,17 @@ one_missing p q g h a b = neither_after g h (a.least h b.is_in b.is_missing) (b.
 -- ---- a log asks for one answer
 
 -- the answer at the end of a log, where all was sent
-abbrev end_status : ShardName → Option (ℕ × Why) → Status
+abbrev pub end_status : ShardName → Option (ℕ × Why) → Status
 end_status s None = Done
 end_status s (Some fault) = BadLog s fault.0 fault.1
 
 -- which of three it is
-data LogAnswer (stands : Gtid → ℕ → Type 0) (s : ShardName) (log : Log) (start : Start) (status : Status) : Type 0 where
+pub data LogAnswer (stands : Gtid → ℕ → Type 0) (s : ShardName) (log : Log) (start : Start) (status : Status) : Type 0 where
   ends : CanBeSent log start → (fault : Option (ℕ × Why)) → EndsWith stands log start fault → status ≡ end_status s fault → LogAnswer stands s log start status
   purged : (p : Position) (missing : Gtid) → start ≡ At p → IsFirstMissing log.base p missing → status ≡ Purged s missing → LogAnswer stands s log start status
   large : (p : Position) → start ≡ At p → IsSubset log.base p → IsTooLargeAlong p (built_front (after log p)) → status ≡ PositionTooLarge s → LogAnswer stands s log start status
 
-log_answer : (stands : Gtid → ℕ → Type 0) (s : ShardName) (log : Log) (start : Start) (status : Status) → LogAsksFor stands s log start status → LogAnswer stands s log start status
+pub log_answer : (stands : Gtid → ℕ → Type 0) (s : ShardName) (log : Log) (start : Start) (status : Status) → LogAsksFor stands s log start status → LogAnswer stands s log start status
 log_answer stands s log start Done asks = ends asks.0 None asks.1 refl
 log_answer stands s log start (BadLog name offset why) asks = ends asks.1 (Some (offset, why)) asks.2 (ap (λ n. BadLog n offset why) asks.0)
 log_answer stands s log (At p) (Purged name missing) asks = purged p missing refl asks.1 (ap (λ n. Purged n missing) asks.0)
@@ -130,7 +131,7 @@ one_answer stands once s log start a b (large p at base over is) (purged q missi
 one_answer stands once s log start a b (large p at base over is) (large q here more far too) = is ∙ sym too
 
 -- a schema text that reads isn't refused
-read_or_refused : (text : List ℕ) (schema : Schema) (line : ℕ) → schema_of text ≡ Ok schema → schema_of text ≡ Err (refusal.BadSchema line) → ⊥
+pub read_or_refused : (text : List ℕ) (schema : Schema) (line : ℕ) → schema_of text ≡ Ok schema → schema_of text ≡ Err (refusal.BadSchema line) → ⊥
 read_or_refused text schema line reads refused = let clash : ◌≡◌ {A = Result Schema SchemaRefusal} (Ok schema) (Err (refusal.BadSchema line)) = sym reads ∙ refused in cc
 
 one_of_shard : Laws → (shard : Option Shard) (s : ShardName) (start : Start) (a b : Status) → ShardAsksFor shard s start a → ShardAsksFor shard s start b → a ≡ b
@@ -149,14 +150,14 @@ one_of_shard laws (Some shard) s start a b (◌⊎◌.inr (schema, reads, p)) (�
 -- ---- an input asks for one answer
 
 -- the input is refused, or asks for a shard, which asks for the answer
-data DueAnswer (cluster : ClusterBytes) (input : List ℕ) (status : Status) : Type 0 where
+pub data DueAnswer (cluster : ClusterBytes) (input : List ℕ) (status : Status) : Type 0 where
   refused : (fault : RequestFault) → IsFaultOf input fault → status ≡ Request fault → DueAnswer cluster input status
   asked : (name : ShardName) (start : Start) → Asks input name start → ShardAsksFor (find_shard cluster name) name start status → DueAnswer cluster input status
 
 of_log : (cluster : ClusterBytes) (input : List ℕ) (status : Status) → AnswersLog cluster input status → DueAnswer cluster input status
 of_log cluster input status (name, start, shard, asks, found, by) = asked name start asks (subst (λ o. ShardAsksFor o name start status) (sym found) (◌⊎◌.inr by))
 
-due_answer : (cluster : ClusterBytes) (input : List ℕ) (status : Status) → IsDue cluster input status → DueAnswer cluster input status
+pub due_answer : (cluster : ClusterBytes) (input : List ℕ) (status : Status) → IsDue cluster input status → DueAnswer cluster input status
 due_answer cluster input (Request fault) due = refused fault due refl
 due_answer cluster input (UnknownShard name) due = asked name due.0 due.1 (subst (λ o. ShardAsksFor o name due.0 (UnknownShard name)) (sym due.2) refl)
 due_answer cluster input (BadSchema name line) (start, shard, asks, found, bad) =
@@ -181,28 +182,45 @@ one_due laws cluster input a b (asked n s asks for) (asked m t too more) =
     let same = asks_once laws input n m s t asks too in
     one_of_shard laws (find_shard cluster m) m t a b (subst (λ x. ShardAsksFor (find_shard cluster m) m x a) same.1 (subst (λ x. ShardAsksFor (find_shard cluster x) x s a) same.0 for)) more
 
-due_once : Laws → (cluster : ClusterBytes) (input : List ℕ) (a b : Status) → IsDue cluster input a → IsDue cluster input b → a ≡ b
+pub due_once : Laws → (cluster : ClusterBytes) (input : List ℕ) (a b : Status) → IsDue cluster input a → IsDue cluster input b → a ≡ b
 due_once laws cluster input a b p q = one_due laws cluster input a b (due_answer cluster input a p) (due_answer cluster input b q)
 
 -- ---- the answer that came
 
+-- what is brought is from outside
+brought_outside : (cluster : ClusterBytes) (input : List ℕ) (status : Status) → IsBrought cluster input status → IsOutside status
+brought_outside cluster input Memory brought = tt
+brought_outside cluster input InputFault brought = tt
+brought_outside cluster input LinkFault brought = tt
+brought_outside cluster input (FeedFault name) brought = tt
+brought_outside cluster input (OpenFault name) brought = tt
+brought_outside cluster input Done brought = brought
+brought_outside cluster input Usage brought = brought
+brought_outside cluster input (BadFrame number frame_why) brought = brought
+brought_outside cluster input (Request fault) brought = brought
+brought_outside cluster input (UnknownShard name) brought = brought
+brought_outside cluster input (Purged name missing) brought = brought
+brought_outside cluster input (BadLog name offset why) brought = brought
+brought_outside cluster input (PositionTooLarge name) brought = brought
+brought_outside cluster input (BadSchema name line) brought = brought
+
 -- an answer that isn't brought from outside is due
-came : (cluster : ClusterBytes) (input : List ℕ) (status other : Status) → IsOutside status ⊎ IsDue cluster input status → status ≡ other → (IsOutside other → ⊥) → IsDue cluster input other
-came cluster input status other (◌⊎◌.inl outside) is not = absurd (not (subst IsOutside is outside))
+came : (cluster : ClusterBytes) (input : List ℕ) (status other : Status) → IsBrought cluster input status ⊎ IsDue cluster input status → status ≡ other → (IsOutside other → ⊥) → IsDue cluster input other
+came cluster input status other (◌⊎◌.inl brought) is not = absurd (not (subst IsOutside is (brought_outside cluster input status brought)))
 came cluster input status other (◌⊎◌.inr due) is not = subst (λ s. IsDue cluster input s) is due
 
-pub came_told : (told : Option ClusterBytes) (left : Option (List ℕ)) (status other : Status) → IfSome told (λ c. IfSome left (λ input. IsOutside status ⊎ IsDue c input status)) →
+pub came_told : (told : Option ClusterBytes) (left : Option (List ℕ)) (status other : Status) → IfSome told (λ c. IfSome left (λ input. IsBrought c input status ⊎ IsDue c input status)) →
     status ≡ other → (IsOutside other → ⊥) → IfSome told (λ c. IfSome left (λ input. IsDue c input other))
 came_told None left status other due is not = tt
 came_told (Some c) None status other due is not = tt
 came_told (Some c) (Some input) status other due is not = came c input status other due is not
 
 -- the answer that is due comes, but for one that is brought from outside
-comes : Laws → (cluster : ClusterBytes) (input : List ℕ) (status other : Status) → IsOutside status ⊎ IsDue cluster input status → IsDue cluster input other → IsOutside status ⊎ (status ≡ other)
-comes laws cluster input status other (◌⊎◌.inl outside) due = ◌⊎◌.inl outside
+comes : Laws → (cluster : ClusterBytes) (input : List ℕ) (status other : Status) → IsBrought cluster input status ⊎ IsDue cluster input status → IsDue cluster input other → IsOutside status ⊎ (status ≡ other)
+comes laws cluster input status other (◌⊎◌.inl brought) due = ◌⊎◌.inl (brought_outside cluster input status brought)
 comes laws cluster input status other (◌⊎◌.inr came) due = ◌⊎◌.inr (due_once laws cluster input status other came due)
 
-pub comes_told : Laws → (told : Option ClusterBytes) (left : Option (List ℕ)) (status other : Status) → IfSome told (λ c. IfSome left (λ input. IsOutside status ⊎ IsDue c input status)) →
+pub comes_told : Laws → (told : Option ClusterBytes) (left : Option (List ℕ)) (status other : Status) → IfSome told (λ c. IfSome left (λ input. IsBrought c input status ⊎ IsDue c input status)) →
     IfSome told (λ c. IfSome left (λ input. IsDue c input other → IsOutside status ⊎ (status ≡ other)))
 comes_told laws None left status other due = tt
 comes_told laws (Some c) None status other due = tt
@@ -247,19 +265,35 @@ asked_due cluster input name start (Some shard) status asks found (◌⊎◌.inl
     subst (λ s. IsDue cluster input s) (sym is) (start, shard, asks, found, bad)
 asked_due cluster input name start (Some shard) status asks found (◌⊎◌.inr by) = asked_log cluster input name start shard status asks found by
 
-pub asked_told : (told told_then : Option ClusterBytes) (left : Option (List ℕ)) (name : ShardName) (start : Start) (status : Status) → told_then ≡ told → IfSome left (λ input. Asks input name start) →
-    IfSome told_then (λ c. IsOutside status ⊎ ShardAsksFor (find_shard c name) name start status) → IfSome told (λ c. IfSome left (λ input. IsOutside status ⊎ IsDue c input status))
-asked_told told told_then left name start status same asks due = go told left asks (subst (λ t. IfSome t (λ c. IsOutside status ⊎ ShardAsksFor (find_shard c name) name start status)) same due)
-  where
-    each : (c : ClusterBytes) (input : List ℕ) → Asks input name start → IsOutside status ⊎ ShardAsksFor (find_shard c name) name start status → IsOutside status ⊎ IsDue c input status
-    each c input asks (◌⊎◌.inl outside) = ◌⊎◌.inl outside
-    each c input asks (◌⊎◌.inr for) = ◌⊎◌.inr (asked_due c input name start (find_shard c name) status asks refl for)
+-- an answer from outside, where a shard was asked for
+asked_brought : (cluster : ClusterBytes) (input : List ℕ) (name : ShardName) (start : Start) (status : Status) → Asks input name start → IsBroughtOn (find_shard cluster name) name start status → IsBrought cluster input status
+asked_brought cluster input name start Memory asks brought = tt
+asked_brought cluster input name start (OpenFault n) asks brought = (start, subst (λ m. Asks input m start) (sym brought) asks)
+asked_brought cluster input name start (FeedFault n) asks brought =
+    (start, subst (λ m. Asks input m start) (sym brought.0) asks, subst (λ m. HasSchema (find_shard cluster m)) (sym brought.0) brought.1)
+asked_brought cluster input name start LinkFault asks brought = (name, start, asks, brought)
+asked_brought cluster input name start InputFault asks brought = absurd brought
+asked_brought cluster input name start Done asks brought = absurd brought
+asked_brought cluster input name start Usage asks brought = absurd brought
+asked_brought cluster input name start (BadFrame number frame_why) asks brought = absurd brought
+asked_brought cluster input name start (Request fault) asks brought = absurd brought
+asked_brought cluster input name start (UnknownShard n) asks brought = absurd brought
+asked_brought cluster input name start (Purged n missing) asks brought = absurd brought
+asked_brought cluster input name start (BadLog n offset why) asks brought = absurd brought
+asked_brought cluster input name start (PositionTooLarge n) asks brought = absurd brought
+asked_brought cluster input name start (BadSchema n line) asks brought = absurd brought
 
-    go : (told : Option ClusterBytes) (left : Option (List ℕ)) → IfSome left (λ input. Asks input name start) → IfSome told (λ c. IsOutside status ⊎ ShardAsksFor (find_shard c name) name start status) →
-        IfSome told (λ c. IfSome left (λ input. IsOutside status ⊎ IsDue c input status))
-    go None left asks due = tt
-    go (Some c) None asks due = tt
-    go (Some c) (Some input) asks due = each c input asks due
+asked_each : (c : ClusterBytes) (input : List ℕ) (name : ShardName) (start : Start) (status : Status) → Asks input name start →
+    IsBroughtOn (find_shard c name) name start status ⊎ ShardAsksFor (find_shard c name) name start status → IsBrought c input status ⊎ IsDue c input status
+asked_each c input name start status asks (◌⊎◌.inl brought) = ◌⊎◌.inl (asked_brought c input name start status asks brought)
+asked_each c input name start status asks (◌⊎◌.inr for) = ◌⊎◌.inr (asked_due c input name start (find_shard c name) status asks refl for)
+
+pub asked_told : (told : Option ClusterBytes) (left : Option (List ℕ)) (name : ShardName) (start : Start) (status : Status) → IfSome left (λ input. Asks input name start) →
+    IfSome told (λ c. IsBroughtOn (find_shard c name) name start status ⊎ ShardAsksFor (find_shard c name) name start status) →
+    IfSome told (λ c. IfSome left (λ input. IsBrought c input status ⊎ IsDue c input status))
+asked_told None left name start status asks due = tt
+asked_told (Some c) None name start status asks due = tt
+asked_told (Some c) (Some input) name start status asks due = asked_each c input name start status asks due
 
 -- an input with this fault asks for no shard
 pub not_faulty : Laws → (left : Option (List ℕ)) (name : ShardName) (start : Start) (fault : RequestFault) (P : Type 0) → IfSome left (λ input. Asks input name start) → IfSome left (λ input. IsFaultOf input fault → P)
@@ -273,16 +307,10 @@ faulty_once laws (Some input) f g is = λ too. ◌⊎◌.inr (ap (λ x. Request 
 
 -- a fault is due whatever the cluster
 pub fault_told : (told : Option ClusterBytes) (left : Option (List ℕ)) (fault : RequestFault) → IfSome left (λ input. IsFaultOf input fault) →
-    IfSome told (λ c. IfSome left (λ input. IsOutside (Request fault) ⊎ IsDue c input (Request fault)))
+    IfSome told (λ c. IfSome left (λ input. IsBrought c input (Request fault) ⊎ IsDue c input (Request fault)))
 fault_told None left fault is = tt
 fault_told (Some c) None fault is = tt
 fault_told (Some c) (Some input) fault is = ◌⊎◌.inr is
-
--- an answer from outside
-pub outside_told : (told : Option ClusterBytes) (left : Option (List ℕ)) (status : Status) → IsOutside status → IfSome told (λ c. IfSome left (λ input. IsOutside status ⊎ IsDue c input status))
-outside_told None left status outside = tt
-outside_told (Some c) None status outside = tt
-outside_told (Some c) (Some input) status outside = ◌⊎◌.inl outside
 
 -- ---- the shard's log that was read
 
@@ -302,15 +330,39 @@ asks_fetched s start status text bytes f fetched asks (Some shard) (same, all) =
           (subst (λ t. LogAsksFor (shard_places s t bytes) s (shard_log s t bytes) start status) same here),
     )
 
+-- what an answer from outside says of the log that was fetched, it says of the shard
+brought_fetched : (s : ShardName) (start : Start) (status : Status) (text bytes : List ℕ) (f : Fetched) → IsFetchedOf s text bytes f → IsBroughtOf (read_as f) start status →
+    (shard : Option Shard) → IsOfShard shard text bytes → IsBroughtOn shard s start status
+brought_fetched s start Memory text bytes f fetched brought shard of = tt
+brought_fetched s start LinkFault text bytes f fetched brought None of = absurd of
+brought_fetched s start LinkFault text bytes f fetched brought (Some shard) (same, all) = (
+  fetched.schema,
+  subst (λ t. schema_of t ≡ Ok fetched.schema) same fetched.reads,
+  subst (λ b. HoldsBase (shard_log s shard.schema b) start) all
+      (subst (λ t. HoldsBase (shard_log s t bytes) start) same (subst (λ l. HoldsBase l start) fetched.log brought)),
+)
+brought_fetched s start InputFault text bytes f fetched brought shard of = absurd brought
+brought_fetched s start (FeedFault name) text bytes f fetched brought shard of = absurd brought
+brought_fetched s start (OpenFault name) text bytes f fetched brought shard of = absurd brought
+brought_fetched s start Done text bytes f fetched brought shard of = absurd brought
+brought_fetched s start Usage text bytes f fetched brought shard of = absurd brought
+brought_fetched s start (BadFrame number frame_why) text bytes f fetched brought shard of = absurd brought
+brought_fetched s start (Request fault) text bytes f fetched brought shard of = absurd brought
+brought_fetched s start (UnknownShard name) text bytes f fetched brought shard of = absurd brought
+brought_fetched s start (Purged name missing) text bytes f fetched brought shard of = absurd brought
+brought_fetched s start (BadLog name offset why) text bytes f fetched brought shard of = absurd brought
+brought_fetched s start (PositionTooLarge name) text bytes f fetched brought shard of = absurd brought
+brought_fetched s start (BadSchema name line) text bytes f fetched brought shard of = absurd brought
+
 pub due_streamed : (told : Option ClusterBytes) (s : ShardName) (start : Start) (status : Status) (text bytes : List ℕ) (f : Fetched) → IsFetchedOf s text bytes f →
-    IfSome told (λ c. IsOfShard (find_shard c s) text bytes) → IsOutside status ⊎ LogAsksFor (IsPlaced f.entries) s (read_as f) start status →
-    IfSome told (λ c. IsOutside status ⊎ ShardAsksFor (find_shard c s) s start status)
+    IfSome told (λ c. IsOfShard (find_shard c s) text bytes) → IsBroughtOf (read_as f) start status ⊎ LogAsksFor (IsPlaced f.entries) s (read_as f) start status →
+    IfSome told (λ c. IsBroughtOn (find_shard c s) s start status ⊎ ShardAsksFor (find_shard c s) s start status)
 due_streamed None s start status text bytes f fetched of due = tt
-due_streamed (Some c) s start status text bytes f fetched of (◌⊎◌.inl outside) = ◌⊎◌.inl outside
+due_streamed (Some c) s start status text bytes f fetched of (◌⊎◌.inl brought) = ◌⊎◌.inl (brought_fetched s start status text bytes f fetched brought (find_shard c s) of)
 due_streamed (Some c) s start status text bytes f fetched of (◌⊎◌.inr asks) = ◌⊎◌.inr (asks_fetched s start status text bytes f fetched asks (find_shard c s) of)
 
 pub due_bad_schema : (told : Option ClusterBytes) (s : ShardName) (start : Start) (line : ℕ) → IfSome told (λ c. HasBadSchema (find_shard c s) line) →
-    IfSome told (λ c. IsOutside (BadSchema s line) ⊎ ShardAsksFor (find_shard c s) s start (BadSchema s line))
+    IfSome told (λ c. IsBroughtOn (find_shard c s) s start (BadSchema s line) ⊎ ShardAsksFor (find_shard c s) s start (BadSchema s line))
 due_bad_schema None s start line bad = tt
 due_bad_schema (Some c) s start line bad = ◌⊎◌.inr (go (find_shard c s) bad)
   where
@@ -319,7 +371,7 @@ due_bad_schema (Some c) s start line bad = ◌⊎◌.inr (go (find_shard c s) ba
     go (Some shard) h = ◌⊎◌.inl (line, h, refl)
 
 pub due_unknown : (told : Option ClusterBytes) (s : ShardName) (start : Start) → IfSome told (λ c. find_shard c s ≡ None) →
-    IfSome told (λ c. IsOutside (UnknownShard s) ⊎ ShardAsksFor (find_shard c s) s start (UnknownShard s))
+    IfSome told (λ c. IsBroughtOn (find_shard c s) s start (UnknownShard s) ⊎ ShardAsksFor (find_shard c s) s start (UnknownShard s))
 due_unknown None s start none = tt
 due_unknown (Some c) s start none = ◌⊎◌.inr (subst (λ o. ShardAsksFor o s start (UnknownShard s)) (sym none) refl)
 

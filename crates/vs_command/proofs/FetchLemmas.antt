@@ -27,6 +27,7 @@ use Rattle.vs_command.specs.declared.fetched.Fetched.{Fetched}
 use Rattle.vs_command.specs.declared.fetched.LogFault.{LogFault}
 use Rattle.vs_command.specs.declared.fetched.Placed.{Placed}
 use Rattle.vs_command.specs.Fetched.{ArePlaced, HasGiven, HasGivenAll, IsFetchedOf, IsOfShard, IsSameLog, fault_of, read_as}
+use Rattle.vs_command.specs.Stages.{HasSchema}
 use Rattle.vs_command.specs.Streaming.{or_none, schema_in}
 
 -- ---- more bytes
@@ -132,6 +133,15 @@ of_shard None name all given text bytes opened whole = tt
 of_shard (Some c) name all given text bytes opened whole =
     let it = opened c refl in
     subst (λ o. IsOfShard o text bytes) (sym it.1) (it.4, subst (λ o. IfSome o (λ a. bytes ≡ a)) it.2 whole)
+
+-- where the cluster is told, it has the shard, and its schema text reads
+pub schema_told : (told : Option ClusterBytes) (name : ShardName) (all given : Option (List ℕ)) (text : List ℕ) (schema : Schema) →
+    ForSome told (λ c. (s : Shard) × (find_shard c name ≡ Some s) × (all ≡ Some s.log) × (given ≡ Some []) × (text ≡ s.schema)) →
+    schema_of text ≡ Ok schema → IfSome told (λ c. HasSchema (find_shard c name))
+schema_told None name all given text schema opened reads = tt
+schema_told (Some c) name all given text schema opened reads =
+    let it = opened c refl in
+    subst (λ o. HasSchema o) (sym it.1) (schema, subst (λ t. schema_of t ≡ Ok schema) it.4 reads)
 
 pub fetched_of : (told : Option ClusterBytes) (name : ShardName) (all given : Option (List ℕ)) (text : List ℕ) (schema : Schema) (f : Fetched) →
     ForSome told (λ c. (s : Shard) × (find_shard c name ≡ Some s) × (all ≡ Some s.log) × (given ≡ Some []) × (text ≡ s.schema)) →

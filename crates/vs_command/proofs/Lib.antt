@@ -10,4 +10,5 @@ pub mod WordLemmas
 pub mod RequestLemmas
 pub mod SaidLemmas
 pub mod DueLemmas
+pub mod StageLemmas
 pub mod OpeningLemmas

@@ -6,6 +6,7 @@ pub mod Streaming
 pub mod Words
 pub mod Laws
 pub mod Causes
+pub mod Stages
 pub mod Showing
 pub mod StatusTexts
 pub mod Openings

@@ -8,6 +8,7 @@ ghost use Rattle.vs_command.specs.declared.status.Status.{Status};
 ghost use Rattle.vs_command.specs.Causes.{HasRead, IsDue, IsOutside, ShardAsksFor};
 ghost use Rattle.vs_command.specs.Laws.{Laws};
 ghost use Rattle.vs_command.specs.Requests.{IsFaultOf};
+ghost use Rattle.vs_command.specs.Stages.{IsBrought, IsBroughtOn, stage};
 ghost use Rattle.vs_command.specs.Streaming.{Headline, IsOfStream, Outcome};
 
 use crate::fetch::{FetchEnd, fetch_log};
@@ -47,7 +48,7 @@ fn stream_shard<R: Wait, O: Sink, T: Tablets>(
     tablets: &mut T,
 ) -> Status
     ensures answers { IfSome (T.cluster tablets.old) (λ c. Writes (O.sent output.old) (O.sent output.new) (Outcome c asked.name asked.start (Rose (T.waits tablets.old asked.name) (T.waits tablets.new asked.name)) result)) }
-    ensures due { IfSome (T.cluster tablets.old) (λ c. IsOutside result ⊎ ShardAsksFor (find_shard c asked.name) asked.name asked.start result) }
+    ensures due { IfSome (T.cluster tablets.old) (λ c. IsBroughtOn (find_shard c asked.name) asked.name asked.start result ⊎ ShardAsksFor (find_shard c asked.name) asked.name asked.start result) }
     ensures kind { IsOfStream result }
     ensures link { result ≡ Status.LinkFault → Rose (O.faults output.old) (O.faults output.new) }
     ensures feed { (n : ShardName) → result ≡ Status.FeedFault n → Rose (T.faults tablets.old n) (T.faults tablets.new n) }
@@ -82,8 +83,9 @@ pub fn connection<R: Wait, I: Source, O: Sink, T: Tablets, C: Clock>(
     ensures headline { IfSome (T.cluster tablets.old) (λ c. IfSome (I.left input.old) (λ bytes. Writes (O.sent output.old) (O.sent output.new) (Headline c (λ n. Rose (T.waits tablets.old n) (T.waits tablets.new n)) bytes result))) }
 
     // when each answer comes
-    ensures due { IfSome (T.cluster tablets.old) (λ c. IfSome (I.left input.old) (λ bytes. IsOutside result ⊎ IsDue c bytes result)) }
+    ensures due { IfSome (T.cluster tablets.old) (λ c. IfSome (I.left input.old) (λ bytes. IsBrought c bytes result ⊎ IsDue c bytes result)) }
     ensures only { (status : Status) → IfSome (T.cluster tablets.old) (λ c. IfSome (I.left input.old) (λ bytes. IsDue c bytes status → IsOutside result ⊎ (result ≡ status))) }
+    ensures stage { (status : Status) → IfSome (T.cluster tablets.old) (λ c. IfSome (I.left input.old) (λ bytes. IsDue c bytes status → stage result ≤ stage status)) }
     ensures request { (fault : RequestFault) → result ≡ Status.Request fault → IfSome (I.left input.old) (λ bytes. IsFaultOf bytes fault) }
     ensures request_when { (fault : RequestFault) → IfSome (I.left input.old) (λ bytes. IsFaultOf bytes fault → IsOutside result ⊎ (result ≡ Status.Request fault)) }
     ensures words { result ≡ Status.Usage → ⊥ }

@@ -29,6 +29,7 @@ ghost use Rattle.vs_command.specs.Fetched.{
   IsSameLog,
   read_as,
 };
+ghost use Rattle.vs_command.specs.Stages.{HasSchema};
 ghost use Rattle.vs_command.specs.Streaming.{HasBadSchema};
 
 use crate::fetched::{Fetched, LogFault, Placed};
@@ -190,6 +191,7 @@ pub fn fetch_log<R: Wait, T: Tablets>(
     ensures cluster { T.cluster tablets.new ≡ T.cluster tablets.old }
     ensures bad_schema { (line : ℕ) → result ≡ Err (FetchEnd.BadSchema line) → IfSome (T.cluster tablets.old) (λ c. HasBadSchema (find_shard c name.now) line) }
     ensures open_failed { result ≡ Err FetchEnd.OpenFault → Rose (T.open_faults tablets.old name.now) (T.open_faults tablets.new name.now) }
+    ensures feed_opened { result ≡ Err FetchEnd.FeedFault → IfSome (T.cluster tablets.old) (λ c. HasSchema (find_shard c name.now)) }
     ensures feed_failed { result ≡ Err FetchEnd.FeedFault → Rose (T.faults tablets.old name.now) (T.faults tablets.new name.now) }
 {
     law_distinct();

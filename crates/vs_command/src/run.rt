@@ -13,8 +13,10 @@ ghost use Rattle.vs_base.specs.declared.Why.{Why};
 ghost use Rattle.vs_outside.specs.Counts.{Rose};
 ghost use Rattle.vs_outside.specs.Told.{Writes};
 ghost use Rattle.vs_command.specs.declared.status.RequestFault.{RequestFault};
-ghost use Rattle.vs_command.specs.Causes.{AnswersLog, HasRead, IsBadSchema, IsOutside, IsUnknown};
+ghost use Rattle.vs_command.specs.declared.status.Status.{Status};
+ghost use Rattle.vs_command.specs.Causes.{AnswersLog, HasRead, IsBadSchema, IsDue, IsOutside, IsUnknown};
 ghost use Rattle.vs_command.specs.Requests.{IsFaultOf};
+ghost use Rattle.vs_command.specs.Stages.{IsBrought, stage};
 ghost use Rattle.vs_command.specs.Streaming.{Headline};
 ghost use Rattle.vs_command.specs.Words.{AreStreamWords};
 
@@ -81,7 +83,9 @@ pub fn run<R: Wait, I: Source, O: Sink, T: Tablets, C: Clock>(
     ensures done { result ≡ Status.Done → IfSome (T.cluster tablets.old) (λ c. IfSome (I.left input.old) (λ bytes. AnswersLog c bytes Status.Done)) }
     ensures done_when { (folder : Items ℕ) → AreStreamWords words.now folder → IfSome (T.cluster tablets.old) (λ c. IfSome (I.left input.old) (λ bytes. AnswersLog c bytes Status.Done → IsOutside result ⊎ (result ≡ Status.Done))) }
 
-    // what is outside
+    // what is due, and what is outside
+    ensures due { (folder : Items ℕ) → AreStreamWords words.now folder → IfSome (T.cluster tablets.old) (λ c. IfSome (I.left input.old) (λ bytes. IsBrought c bytes result ⊎ IsDue c bytes result)) }
+    ensures stage { (folder : Items ℕ) (status : Status) → AreStreamWords words.now folder → IfSome (T.cluster tablets.old) (λ c. IfSome (I.left input.old) (λ bytes. IsDue c bytes status → stage result ≤ stage status)) }
     ensures link { result ≡ Status.LinkFault → Rose (O.faults output.old) (O.faults output.new) }
     ensures input { result ≡ Status.InputFault → Rose (I.faults input.old) (I.faults input.new) }
     ensures feed { (name : ShardName) → result ≡ Status.FeedFault name → Rose (T.faults tablets.old name) (T.faults tablets.new name) }

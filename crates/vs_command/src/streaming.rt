@@ -3,9 +3,10 @@ ghost use Rattle.vs_outside.specs.Counts.{Rose};
 ghost use Rattle.vs_outside.specs.Told.{Writes};
 ghost use Rattle.vs_log.specs.Laws.{FitAlong, HasNewGtids};
 ghost use Rattle.vs_command.specs.Built.{AreBuilt, IsFirstUnbuilt};
-ghost use Rattle.vs_command.specs.Causes.{IsOutside, LogAsksFor};
+ghost use Rattle.vs_command.specs.Causes.{LogAsksFor};
 ghost use Rattle.vs_command.specs.Fetched.{IsPlaced, entries_of, read_as};
 ghost use Rattle.vs_command.specs.Sending.{lacking, position_after};
+ghost use Rattle.vs_command.specs.Stages.{IsBroughtOf};
 ghost use Rattle.vs_command.specs.Streaming.{IsOfLog, IsStart, IsStreamedFrom};
 
 use crate::fetched::{Fetched, Placed};
@@ -96,7 +97,7 @@ pub fn stream_log<O: Sink>(
 ) -> Status
     requires { HasNewGtids (read_as fetched) }
     ensures wrote { Writes (O.sent output.old) (O.sent output.new) (λ w. IsStreamedFrom (IsPlaced fetched.entries) name (read_as fetched) start (fetched.mark ≡ None) result w) }
-    ensures due { IsOutside result ⊎ LogAsksFor (IsPlaced fetched.entries) name (read_as fetched) start result }
+    ensures due { IsBroughtOf (read_as fetched) start result ⊎ LogAsksFor (IsPlaced fetched.entries) name (read_as fetched) start result }
     ensures kind { IsOfLog result }
     ensures later { O.faults output.old ≤ O.faults output.new }
     ensures link { result ≡ Status.LinkFault → Rose (O.faults output.old) (O.faults output.new) }

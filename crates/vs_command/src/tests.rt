@@ -4,7 +4,7 @@ use std::alloc::{AllocError, Global};
 use std::process::Abort;
 use std::sync::Wait;
 use vs_base::{Column, ColumnKind, Gtid, List, ShardName, Text};
-use vs_frame::{law_front, put_frame};
+use vs_frame::{LIMIT, law_front, put_frame};
 use vs_gtid::{GtidSet, law_added, law_equal_sets, law_united};
 use vs_journal::{Entry, JournalValue, Successor, Work};
 use vs_outside::{
@@ -204,7 +204,7 @@ fn framed(alloc: Global, request: &VStreamRequest) -> Result<Vec<u8>, AllocError
     let mut message = Vec::new(alloc);
     write_request(alloc, &mut message, request)?;
     let mut frame = Vec::new(alloc);
-    if message.len() > 16_777_216 {
+    if message.len() > LIMIT as usize {
         return Err(AllocError);
     }
     put_frame(alloc, &mut frame, &message)?;
@@ -346,8 +346,8 @@ fn make_logs(alloc: Global) -> Result<Logs, AllocError> {
     })
 }
 
-/// How a shard is streamed, or why it isn't.
-fn streams<'a>(requests: &'a Requests, logs: &'a Logs) -> [Case<'a>; 21] {
+/// A whole log is streamed.
+fn whole_logs<'a>(requests: &'a Requests, logs: &'a Logs) -> [Case<'a>; 6] {
     [
         // a log without an entry, and one without a byte
         Case {
@@ -370,7 +370,18 @@ fn streams<'a>(requests: &'a Requests, logs: &'a Logs) -> [Case<'a>; 21] {
             written: &FRAMES,
             ..CASE
         },
-        // what a position has isn't sent
+        // a transaction that changes no row
+        Case {
+            log: &logs.plain,
+            written: &logs.transaction,
+            ..CASE
+        },
+    ]
+}
+
+/// What a position has isn't sent.
+fn positions<'a>(requests: &'a Requests, logs: &'a Logs) -> [Case<'a>; 6] {
+    [
         Case {
             input: &requests.first,
             written: &FRAMES[104..],
@@ -407,7 +418,12 @@ fn streams<'a>(requests: &'a Requests, logs: &'a Logs) -> [Case<'a>; 21] {
             line: "position too large c/0",
             ..CASE
         },
-        // from the log's end: as it is, or as it stood when the feed first waited
+    ]
+}
+
+/// From the log's end: as it is, or as it stood when the feed first waited.
+fn from_the_end(requests: &Requests) -> [Case<'_>; 3] {
+    [
         Case {
             input: &requests.current,
             ..CASE
@@ -423,13 +439,12 @@ fn streams<'a>(requests: &'a Requests, logs: &'a Logs) -> [Case<'a>; 21] {
             written: &FRAMES[104..],
             ..CASE
         },
-        // a transaction that changes no row
-        Case {
-            log: &logs.plain,
-            written: &logs.transaction,
-            ..CASE
-        },
-        // a fault of the log comes after the frames before it
+    ]
+}
+
+/// Why a shard isn't streamed to its log's end. A fault of the log comes after the frames before it.
+fn faults<'a>(requests: &'a Requests, logs: &'a Logs) -> [Case<'a>; 6] {
+    [
         Case {
             log: &logs.bad,
             number: 6,
@@ -437,7 +452,6 @@ fn streams<'a>(requests: &'a Requests, logs: &'a Logs) -> [Case<'a>; 21] {
             written: &FRAMES[..104],
             ..CASE
         },
-        // what fails outside
         Case {
             sink: &[SinkAnswer::Take(5), SinkAnswer::Fail],
             number: 10,
@@ -535,7 +549,10 @@ fn a_shard_is_streamed_or_the_reason_is_told(rt: HostRuntime) -> Result<(), Allo
     let words = stream_words(alloc)?;
     let requests = make_requests(alloc)?;
     let logs = make_logs(alloc)?;
-    compare(&rt, alloc, &words, &streams(&requests, &logs))?;
+    compare(&rt, alloc, &words, &whole_logs(&requests, &logs))?;
+    compare(&rt, alloc, &words, &positions(&requests, &logs))?;
+    compare(&rt, alloc, &words, &from_the_end(&requests))?;
+    compare(&rt, alloc, &words, &faults(&requests, &logs))?;
     compare(&rt, alloc, &words, &changes(&requests, &logs))
 }
 

@@ -54,7 +54,9 @@ returns-in-Err-BadSchema-clause-due g c =
     rw c.in-Err-BadSchema.line-is (due_bad_schema (g.T.Tablets.cluster c.args.tablets.now) c.args.asked.name c.args.asked.start c.in-Err-BadSchema.line bad)
 
 pub returns-in-Err-OpenFault-clause-due : goal.returns-in-Err-OpenFault-clause-due
-returns-in-Err-OpenFault-clause-due g c = told_always _ (g.T.Tablets.cluster c.args.tablets.now) (λ _. ◌⊎◌.inl tt)
+returns-in-Err-OpenFault-clause-due g c = told_always _ (g.T.Tablets.cluster c.args.tablets.now) (λ _. ◌⊎◌.inl refl)
 
 pub returns-in-Err-FeedFault-clause-due : goal.returns-in-Err-FeedFault-clause-due
-returns-in-Err-FeedFault-clause-due g c = told_always _ (g.T.Tablets.cluster c.args.tablets.now) (λ _. ◌⊎◌.inl tt)
+returns-in-Err-FeedFault-clause-due g c =
+    let opened = c.in-Err-FeedFault.ensures.feed_opened (ap (λ e. Err e) c.in-Err-FeedFault.field-0-is) in
+    told_so _ _ (g.T.Tablets.cluster c.args.tablets.now) (λ k p. ◌⊎◌.inl (refl, p)) opened

@@ -1,6 +1,7 @@
-use Rattle.std.proofs.Common.{◌≡◌, subst}
+use Rattle.std.proofs.Common.{◌≡◌, ◌≤◌, subst}
 use Rattle.std.specs.Prelude.{◌⊎◌, IfSome}
 use Rattle.vs_command.specs.Causes.{IsDue, IsOutside}
+use Rattle.vs_command.specs.Stages.{IsBrought, stage}
 use Rattle.vs_command.specs.declared.status.Status.TheVariants.{BadSchema, Done, UnknownShard, Purged, BadLog, PositionTooLarge}
 use Rattle.vs_command.proofs.AnswerLemmas.{headline_told}
 use Rattle.vs_command.proofs.run.run.Goals as goal
@@ -40,3 +41,13 @@ pub returns-clause-done_when : goal.returns-clause-done_when
 returns-clause-done_when g c folder words =
     subst (λ t. IfSome t (λ k. IfSome (g.I.Source.left c.args.input.now) (λ input. IsDue k input Done → IsOutside c.connection.result ⊎ (c.connection.result ≡ Done))))
     c.point.ensures.cluster (c.connection.ensures.only Done)
+
+pub returns-clause-due : goal.returns-clause-due
+returns-clause-due g c folder words =
+    subst (λ t. IfSome t (λ k. IfSome (g.I.Source.left c.args.input.now) (λ input. IsBrought k input c.connection.result ⊎ IsDue k input c.connection.result)))
+    c.point.ensures.cluster c.connection.ensures.due
+
+pub returns-clause-stage : goal.returns-clause-stage
+returns-clause-stage g c folder status words =
+    subst (λ t. IfSome t (λ k. IfSome (g.I.Source.left c.args.input.now) (λ input. IsDue k input status → stage c.connection.result ≤ stage status)))
+    c.point.ensures.cluster (c.connection.ensures.stage status)

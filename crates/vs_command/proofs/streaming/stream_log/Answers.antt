@@ -4,7 +4,7 @@ use Rattle.std.specs.Option.{option_map}
 use Rattle.vs_command.specs.declared.sending.SendEnd.TheVariants as ends
 use Rattle.vs_command.specs.declared.status.Status.TheVariants as statuses
 use Rattle.vs_command.specs.Fetched.{IsPlaced, entries_of, fault_of, read_as}
-use Rattle.vs_command.proofs.CauseLemmas.{asks_purged, asks_too_large, asks_unbuilt, asks_unbuilt_from_end, due_end}
+use Rattle.vs_command.proofs.CauseLemmas.{asks_purged, asks_too_large, asks_unbuilt, asks_unbuilt_from_end, due_end, holds_base}
 use Rattle.vs_command.proofs.StreamLemmas.{StartsAt, Writes-ended, Writes-purged, Writes-refused, Writes-unbuilt_from_end}
 use Rattle.vs_command.proofs.streaming.stream_log.Goals as goal
 
@@ -64,6 +64,11 @@ pub returns-in-Some-unbuilt-clause-due : goal.returns-in-Some-unbuilt-clause-due
 returns-in-Some-unbuilt-clause-due g c =
     let unbuilt = rw c.as_slice-entries.ensures at c.in-Some-unbuilt.ensures in
     ◌⊎◌.inr (asks_unbuilt_from_end (IsPlaced c.args.fetched.entries) c.args.name (read_as c.args.fetched) c.args.start c.in-Some-unbuilt.offset unbuilt)
+
+pub returns-in-Err-LinkFault-clause-due : goal.returns-in-Err-LinkFault-clause-due
+returns-in-Err-LinkFault-clause-due g c =
+    let at : StartsAt (read_as c.args.fetched) c.args.start (c.args.fetched.mark ≡ None) c.in-Ok.start = record { is_start = c.in-Ok.ensures.start; canonical = c.intervals-count.ensures.canonical } in
+    ◌⊎◌.inl (holds_base (read_as c.args.fetched) c.args.start (c.args.fetched.mark ≡ None) c.in-Ok.start at c.in_default-first_missing.ensures)
 
 pub returns-in-Err-PositionTooLarge-clause-due : goal.returns-in-Err-PositionTooLarge-clause-due
 returns-in-Err-PositionTooLarge-clause-due g c =
