@@ -63,6 +63,7 @@ pub fn run<R: Wait, I: Source, O: Sink, T: Tablets, C: Clock>(
     // the words
     ensures usage { result ≡ Status.Usage → (folder : Items ℕ) → AreStreamWords words.now folder → ⊥ }
     ensures words { ((folder : Items ℕ) → AreStreamWords words.now folder → ⊥) → result ≡ Status.Usage }
+    ensures silent { ((folder : Items ℕ) → AreStreamWords words.now folder → ⊥) → O.sent output.new ≡ O.sent output.old }
 
     // the request
     ensures request { (fault : RequestFault) → result ≡ Status.Request fault → IfSome (I.left input.old) (λ bytes. IsFaultOf bytes fault) }
