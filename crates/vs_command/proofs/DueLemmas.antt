@@ -1,12 +1,10 @@
 -- An input and a cluster ask for one answer.
-use Rattle.std.proofs.Common.{◌≡◌, ◌&&◌, ℕ, true, false, nat_eq, List, Option, Some, None, Result, Ok, Err, refl, sym, ap, subst, ◌∙◌, arith}
+use Rattle.std.proofs.Common.{◌≡◌, ℕ, false, List, Option, Some, None, Result, Ok, Err, refl, sym, ap, subst, ◌∙◌, arith}
 use Rattle.std.specs.Prelude.{◌⊎◌, IfSome}
-use Rattle.std.specs.Cmp.Lexicographic.{pointwise, slice_cmp}
+use Rattle.std.specs.Cmp.Lexicographic.{slice_cmp}
 use Rattle.std.specs.Ordering.{nat_cmp, is_gt, ordering_then, ordering_reverse}
 use Rattle.std.specs.declared.cmp.Ordering.{Ordering}
 use Rattle.std.specs.declared.cmp.Ordering.TheVariants.{Less, Equal, Greater}
-use Rattle.std.proofs.lemmas.Slice.Eq.{bytes_eq-Decides}
-use Rattle.std.proofs.lemmas.Bool.{eq-eqb}
 use Rattle.std.proofs.lemmas.Bool.Decides.{nat_tests}
 use Rattle.std.proofs.lemmas.Cmp.{nat_list_cmp_total}
 use Rattle.std.proofs.lemmas.Map.Lookups.{exact_bytes}
@@ -19,8 +17,6 @@ use Rattle.vs_schema.specs.declared.schema.Schema.{Schema}
 use Rattle.vs_schema.specs.declared.refusal.SchemaRefusal.{SchemaRefusal}
 use Rattle.vs_schema.specs.declared.refusal.SchemaRefusal.TheVariants as refusal
 use Rattle.vs_schema.specs.Rules.{schema_of}
-use Rattle.vs_base.specs.Names.{same_gtid}
-use Rattle.vs_base.proofs.NameLemmas.{same_gtid-is}
 use Rattle.vs_gtid.specs.Logs.{Log}
 use Rattle.vs_gtid.specs.Missing.{IsFirstMissing, comes_after}
 use Rattle.vs_gtid.specs.Positions.{Position, IsSubset}
@@ -41,6 +37,7 @@ use Rattle.vs_command.specs.Requests.{Asks, IsFaultOf, IsFrame, TakesOf}
 use Rattle.vs_command.specs.Sending.{IsTooLargeAlong}
 use Rattle.vs_command.specs.Stages.{HasSchema, IsBrought, IsBroughtOf, IsBroughtOn}
 use Rattle.vs_command.specs.Streaming.{HasBadSchema, IsOfStream, shard_log, shard_places, shard_rules}
+use Rattle.vs_command.proofs.PartLemmas.{gtid_of_parts}
 use Rattle.vs_command.proofs.BuiltLemmas.{placed_so}
 use Rattle.vs_command.proofs.CauseLemmas.{LogAsksFor-weaken}
 use Rattle.vs_command.proofs.SaidLemmas.{asks_once, fault_once, not_asked}
@@ -50,13 +47,6 @@ use Rattle.vs_command.proofs.SaidLemmas.{asks_once, fault_once, not_asked}
 same_number : (a b : ℕ) → is_gt (nat_cmp a b) ≡ false → is_gt (nat_cmp b a) ≡ false → a ≡ b
 same_number a b h k = grind (arith, nat_tests)
 
-both_are : (u v : List ℕ) (a b : ℕ) → u ≡ v → a ≡ b → (pointwise nat_eq u v && nat_eq a b) ≡ true
-both_are u v a b p q = let x : pointwise nat_eq u v ≡ true = (bytes_eq-Decides u v).1 p in let y : nat_eq a b ≡ true = eq-eqb a b q in cc
-
-same_parts : (g h : Gtid) → g.uuid ≡ h.uuid → g.number ≡ h.number → g ≡ h
-unfolding same_gtid
-same_parts g h p q = same_gtid-is g h (both_are g.uuid h.uuid g.number h.number p q)
-
 neither_after : (g h : Gtid) → comes_after g h ≡ false → comes_after h g ≡ false → g ≡ h
 neither_after g h p q = go (slice_cmp nat_cmp g.uuid h.uuid) refl p (subst (λ o. is_gt (ordering_then o (nat_cmp h.number g.number)) ≡ false) (nat_list_cmp_total.antisymm h.uuid g.uuid) q)
   where
@@ -64,7 +54,7 @@ neither_after g h p q = go (slice_cmp nat_cmp g.uuid h.uuid) refl p (subst (λ o
         is_gt (ordering_then (ordering_reverse (slice_cmp nat_cmp g.uuid h.uuid)) (nat_cmp h.number g.number)) ≡ false → g ≡ h
     go Less e a b = let t = rw e at b in cc
     go Greater e a b = cc
-    go Equal e a b = same_parts g h (exact_bytes g.uuid h.uuid e) (same_number g.number h.number a (rw e at b))
+    go Equal e a b = gtid_of_parts g h (exact_bytes g.uuid h.uuid e) (same_number g.number h.number a (rw e at b))
 
 one_missing : (p q : Position) (g h : Gtid) → IsFirstMissing p q g → IsFirstMissing p q h → g ≡ h
 one_missing p q g h a b = neither_after g h (a.least h b.is_in b.is_missing) (b.least g a.is_in a.is_missing)

@@ -7,6 +7,7 @@ pub mod AnswerLemmas
 pub mod StreamLemmas
 pub mod FetchLemmas
 pub mod WordLemmas
+pub mod PartLemmas
 pub mod RequestLemmas
 pub mod SaidLemmas
 pub mod DueLemmas

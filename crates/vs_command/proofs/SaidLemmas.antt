@@ -1,11 +1,8 @@
 -- An input says one thing: a request, or one fault.
-use Rattle.std.proofs.Common.{◌≡◌, ◌&&◌, ℕ, true, nat_eq, List, [], ◌∷◌, length, Result, Ok, Err, refl, sym, ap, subst, ◌∙◌, arith}
+use Rattle.std.proofs.Common.{◌≡◌, ℕ, List, [], ◌∷◌, length, Result, Ok, Err, refl, sym, ap, subst, ◌∙◌, arith}
 use Rattle.std.specs.Prelude.{◌⊎◌}
-use Rattle.std.specs.Cmp.Lexicographic.{pointwise}
-use Rattle.std.proofs.lemmas.Slice.Eq.{bytes_eq-Decides}
 use Rattle.vs_base.specs.declared.ShardName.{ShardName}
-use Rattle.vs_base.specs.Names.{same_name}
-use Rattle.vs_base.proofs.NameLemmas.{same_name-is}
+use Rattle.vs_command.proofs.PartLemmas.{name_of_parts}
 use Rattle.vs_frame.specs.Frames.{IsPart, IsTooLong}
 use Rattle.vs_request.specs.Requests.{Says}
 use Rattle.vs_request.specs.declared.request.Request.{Request}
@@ -56,27 +53,27 @@ Brings (long n) fault = fault ≡ TooLong n
 Brings (says (Err refusal)) fault = end_of refusal ≡ ends.Fault fault
 Brings (says (Ok request)) fault = (index : ℕ) × (fault ≡ NotBuilt index) × IsNotBuilt request index
 
-record IsBrought (input : List ℕ) (fault : RequestFault) : Type 0 where
+record HasFault (input : List ℕ) (fault : RequestFault) : Type 0 where
   pub said : Said
   pub is : SaidBy input said
   pub brings : Brings said fault
 
-refused_by : (input : List ℕ) (refusal : RequestRefusal) (fault : RequestFault) → end_of refusal ≡ ends.Fault fault → BeginsWith input (Err refusal) → IsBrought input fault
+refused_by : (input : List ℕ) (refusal : RequestRefusal) (fault : RequestFault) → end_of refusal ≡ ends.Fault fault → BeginsWith input (Err refusal) → HasFault input fault
 refused_by input refusal fault is begins = record { said = says (Err refusal); is = begins; brings = is }
 
-brought : (input : List ℕ) (fault : RequestFault) → IsFaultOf input fault → IsBrought input fault
-brought input (Cut held) p = record { said = cuts held; is = p; brings = refl }
-brought input (TooLong n) p = record { said = long n; is = p; brings = refl }
-brought input (Message why) p = refused_by input (refusals.Message why) (Message why) refl p
-brought input NoShards p = refused_by input refusals.NoShards NoShards refl p
-brought input (TooManyShards n) p = refused_by input (refusals.TooManyShards n) (TooManyShards n) refl p
-brought input (BadName index) p = refused_by input (refusals.BadName index) (BadName index) refl p
-brought input (BadPosition index at) p = refused_by input (refusals.BadPosition index at) (BadPosition index at) refl p
-brought input (NeedsShard index) p = refused_by input (refusals.NeedsShard index) (NeedsShard index) refl p
-brought input (TooManyKeys index) p = refused_by input (refusals.TooManyKeys index) (TooManyKeys index) refl p
-brought input (LongKey index) p = refused_by input (refusals.LongKey index) (LongKey index) refl p
-brought input (TooManyRules n) p = refused_by input (refusals.TooManyRules n) (TooManyRules n) refl p
-brought input (NotBuilt index) p = record { said = says (Ok p.3.0); is = (p.0, p.1, p.2, p.3.1); brings = (index, refl, p.3.2) }
+fault_said : (input : List ℕ) (fault : RequestFault) → IsFaultOf input fault → HasFault input fault
+fault_said input (Cut held) p = record { said = cuts held; is = p; brings = refl }
+fault_said input (TooLong n) p = record { said = long n; is = p; brings = refl }
+fault_said input (Message why) p = refused_by input (refusals.Message why) (Message why) refl p
+fault_said input NoShards p = refused_by input refusals.NoShards NoShards refl p
+fault_said input (TooManyShards n) p = refused_by input (refusals.TooManyShards n) (TooManyShards n) refl p
+fault_said input (BadName index) p = refused_by input (refusals.BadName index) (BadName index) refl p
+fault_said input (BadPosition index at) p = refused_by input (refusals.BadPosition index at) (BadPosition index at) refl p
+fault_said input (NeedsShard index) p = refused_by input (refusals.NeedsShard index) (NeedsShard index) refl p
+fault_said input (TooManyKeys index) p = refused_by input (refusals.TooManyKeys index) (TooManyKeys index) refl p
+fault_said input (LongKey index) p = refused_by input (refusals.LongKey index) (LongKey index) refl p
+fault_said input (TooManyRules n) p = refused_by input (refusals.TooManyRules n) (TooManyRules n) refl p
+fault_said input (NotBuilt index) p = record { said = says (Ok p.3.0); is = (p.0, p.1, p.2, p.3.1); brings = (index, refl, p.3.2) }
 
 one_index : (request : Request) (i j : ℕ) → IsNotBuilt request i → IsNotBuilt request j → i ≡ j
 one_index request i j (◌⊎◌.inl p) (◌⊎◌.inl q) = p.0 ∙ sym q.0
@@ -92,18 +89,11 @@ brings_once (says (Ok request)) f g p q = p.1 ∙ ap (λ i. NotBuilt i) (one_ind
 
 pub fault_once : Laws → (input : List ℕ) (f g : RequestFault) → IsFaultOf input f → IsFaultOf input g → f ≡ g
 fault_once laws input f g p q =
-    let a = brought input f p in
-    let b = brought input g q in
+    let a = fault_said input f p in
+    let b = fault_said input g q in
     brings_once b.said f g (subst (λ s. Brings s f) (said_once laws input a.said b.said a.is b.is) a.brings) b.brings
 
 -- ---- what it asks for
-
-both_are : (a b c d : List ℕ) → a ≡ b → c ≡ d → (pointwise nat_eq a b && pointwise nat_eq c d) ≡ true
-both_are a b c d p q = let x : pointwise nat_eq a b ≡ true = (bytes_eq-Decides a b).1 p in let y : pointwise nat_eq c d ≡ true = (bytes_eq-Decides c d).1 q in cc
-
-same_parts : (n m : ShardName) → n.keyspace ≡ m.keyspace → n.shard ≡ m.shard → n ≡ m
-unfolding same_name
-same_parts n m p q = same_name-is n m (both_are n.keyspace m.keyspace n.shard m.shard p q)
 
 one_start : (s t : Start) → start_of s ≡ start_of t → s ≡ t
 one_start (At p) (At q) h = let same : p ≡ q = cc in ap (λ x. At x) same
@@ -117,7 +107,7 @@ one_entry a b h = cc
 one_plain : (request : Request) (n m : ShardName) (s t : Start) → IsPlain request n s → IsPlain request m t → (n ≡ m) × (s ≡ t)
 one_plain request n m s t p q =
     let head = one_entry (entry_of n s) (entry_of m t) (sym p.entries ∙ q.entries) in
-    (same_parts n m (ap (λ (w : Wanted). w.keyspace) head) (ap (λ (w : Wanted). w.shard) head), one_start s t (ap (λ (w : Wanted). w.start) head))
+    (name_of_parts n m (ap (λ (w : Wanted). w.keyspace) head) (ap (λ (w : Wanted). w.shard) head), one_start s t (ap (λ (w : Wanted). w.start) head))
 
 same_request : Laws → (input : List ℕ) (a b : Request) → BeginsWith input (Ok a) → BeginsWith input (Ok b) → a ≡ b
 same_request laws input a b p q = let same = said_once laws input (says (Ok a)) (says (Ok b)) p q in cc
@@ -142,7 +132,7 @@ not_plain request name start index plain (◌⊎◌.inr (zero, wanted, one, ◌�
 
 pub not_asked : Laws → (input : List ℕ) (name : ShardName) (start : Start) (fault : RequestFault) → Asks input name start → IsFaultOf input fault → ⊥
 not_asked laws input name start fault asks is =
-    let it = brought input fault is in
+    let it = fault_said input fault is in
     go it.said fault (said_once laws input it.said (says (Ok asks.0)) it.is asks.1) it.brings
   where
     go : (said : Said) (fault : RequestFault) → said ≡ says (Ok asks.0) → Brings said fault → ⊥
