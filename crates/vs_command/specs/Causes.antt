@@ -22,7 +22,7 @@ use Rattle.vs_command.specs.Requests.{Asks, HasTaken, IsFaultOf, IsFrame, TakesO
 use Rattle.vs_command.specs.Sending.{IsTooLargeAlong}
 use Rattle.vs_command.specs.Streaming.{shard_log, shard_places}
 
--- The answers that what is outside brings: want of memory, and the faults of input, output, feed and fetch. Each may come in place of any other.
+-- The answers that what is outside brings: want of memory, and the faults of input, output, feed and fetch.
 abbrev pub IsOutside : Status → Type 0
 IsOutside Memory = Unit {0}
 IsOutside InputFault = Unit {0}

@@ -5,13 +5,16 @@ use std::process::Abort;
 use std::sync::Wait;
 use vs_base::{Column, ColumnKind, Gtid, List, ShardName, Text};
 use vs_frame::{LIMIT, law_front, put_frame};
-use vs_gtid::{GtidSet, law_added, law_equal_sets, law_united};
+use vs_gtid::{GtidSet, law_added, law_equal_sets, law_printed, law_readings, law_united};
 use vs_journal::{Entry, JournalValue, Successor, Work};
 use vs_outside::{
     FeedAnswer, MemClock, MemSink, MemSource, MemTablets, SinkAnswer, names_keyspace, names_shard,
 };
-use vs_proto::{Filter, Flags, Rule, ShardGtid, VGtid, VStreamRequest, write_request};
-use vs_request::law_requests;
+use vs_proto::{
+    Filter, Flags, Rule, ShardGtid, VGtid, VStreamRequest, law_messages, law_spelling,
+    write_request,
+};
+use vs_request::{law_keys, law_requests};
 
 /// A format description, an empty base, and the statements `drop table t` (time 100) and
 /// `drop table s` (time 101) in `vt_c`, of the GTIDs 1 and 2.
@@ -689,14 +692,24 @@ fn entries_and_columns_are_copied(rt: HostRuntime) -> Result<(), AllocError> {
     Ok(())
 }
 
+/// A law is a call that does nothing; what it ensures is proved.
 #[test]
-fn journals_are_copied(rt: HostRuntime) -> Result<(), AllocError> {
-    let alloc = rt.alloc();
+fn laws_are_called() {
     law_added();
     law_united();
     law_equal_sets();
+    law_readings();
+    law_printed();
     law_front();
+    law_messages();
+    law_spelling();
     law_requests();
+    law_keys();
+}
+
+#[test]
+fn journals_are_copied(rt: HostRuntime) -> Result<(), AllocError> {
+    let alloc = rt.alloc();
     let journal = JournalValue {
         id: 7,
         shards: true,
