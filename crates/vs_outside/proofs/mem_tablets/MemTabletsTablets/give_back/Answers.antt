@@ -1,4 +1,4 @@
-use Rattle.std.proofs.Common.{◌∙◌}
+use Rattle.std.proofs.Common.{◌∙◌, arith}
 use Rattle.vs_outside.specs.Openings.{faults_of}
 use Rattle.vs_outside.specs.Scripts.{has_no_failure, has_no_faults}
 use Rattle.vs_outside.proofs.OpeningLemmas.{no_faults-add}
@@ -9,5 +9,5 @@ invariant_of-self c = record {
   quiet = λ quiet.
       let none = c.args.self.now.quiet quiet in
       let feed_none = c.faults.ensures ∙ has_no_faults (has_no_failure c.args.feed.script.items) c.args.feed.faults (c.requires.sound quiet) in
-      (no_faults-add (faults_of c.args.self.now.openings.openings.items) (faults_of c.add.new.self.openings.items) c.args.name.now c.faults.result feed_none c.add.ensures.faults c.add.ensures.other_faults none.0, none.1, none.2);
+      (no_faults-add (faults_of c.args.self.now.openings.openings.items) (faults_of c.add.new.self.openings.items) c.args.name.now _ c.add.ensures.faults (omega (arith, feed_none)) c.add.ensures.other_faults none.0, none.1, none.2);
 }
