@@ -19,7 +19,7 @@ use Rattle.vs_log.specs.declared.State.{State}
 use Rattle.vs_binlog.specs.Heads.{Event, body_of, kind_of}
 use Rattle.vs_binlog.specs.Bodies.{Said, query_body}
 use Rattle.vs_binlog.specs.Words.{first_word}
-use Rattle.vs_log.specs.Queries.{statement_of, statement_by, said, is_ddl, word_begin, word_commit, word_savepoint, word_xa}
+use Rattle.vs_entries.specs.Queries.{statement_of, statement_by, said, is_ddl, word_begin, word_commit, word_savepoint, word_xa}
 use Rattle.vs_log.specs.Table.{single_work}
 use Rattle.vs_log.specs.Meaning.{log_meant}
 use Rattle.vs_log.specs.Productions.{AreEntries, Begins, IsMiddle, IsSingle, IsTransaction, IsWork, Means}

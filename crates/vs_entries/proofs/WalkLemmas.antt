@@ -13,7 +13,7 @@ use Rattle.vs_binlog.specs.Heads.{Event, length_of}
 use Rattle.vs_log.specs.declared.state.Place.TheVariants as place
 use Rattle.vs_log.specs.declared.state.State.{State}
 use Rattle.vs_log.specs.Events.{is_held, joined, last_place, magic}
-use Rattle.vs_log.specs.Meaning.{at_place, front, has_magic, head_refusal, is_base_known, knows_base, log_meant, log_of}
+use Rattle.vs_log.specs.Meaning.{at_place, front, has_magic, head_refusal, is_base_known, knows_base, log_meant, log_of, log_unread}
 use Rattle.vs_log.specs.Productions.{Begins, IsCut, Refuses, StandsAt}
 use Rattle.vs_log.specs.Table.{Rules, step}
 use Rattle.vs_log.proofs.Bases.{knows_its_base, step_keeps}
@@ -418,11 +418,11 @@ none_given rules bytes walk refused w h = go w.stands h where
   go (◌⊎◌.inr s) (◌⊎◌.inl k) = let e : true ≡ false = sym (magic_held s).0 ∙ k in absurd (cc)
   go (◌⊎◌.inr s) (◌⊎◌.inr k) = let e : 4 ≤ length bytes = (magic_held s).1 in absurd (omega (arith, e, k))
 
-pub no_log : (rules : Rules) (bytes : List ℕ) → has_magic bytes ≡ false → log_meant rules bytes ≡ log_of front 0 (Some BadMagic)
-no_log rules bytes h = sym (only rules bytes (log_of front 0 (Some BadMagic)) (◌⊎◌.inr (◌⊎◌.inr (h, refl))))
+pub no_log : (rules : Rules) (bytes : List ℕ) → has_magic bytes ≡ false → log_meant rules bytes ≡ log_unread (Some BadMagic)
+no_log rules bytes h = sym (only rules bytes (log_unread (Some BadMagic)) (◌⊎◌.inr (◌⊎◌.inr (h, refl))))
 
-pub short_log : (rules : Rules) (bytes : List ℕ) → has_magic bytes ≡ true → length bytes < 4 → log_meant rules bytes ≡ log_of front 0 None
-short_log rules bytes h l = sym (only rules bytes (log_of front 0 None) (◌⊎◌.inr (◌⊎◌.inl (l, sym (take_all 4 bytes (omega (arith, l))) ∙ magic_front bytes h, refl))))
+pub short_log : (rules : Rules) (bytes : List ℕ) → has_magic bytes ≡ true → length bytes < 4 → log_meant rules bytes ≡ log_unread None
+short_log rules bytes h l = sym (only rules bytes (log_unread None) (◌⊎◌.inr (◌⊎◌.inl (l, sym (take_all 4 bytes (omega (arith, l))) ∙ magic_front bytes h, refl))))
 
 pub walk_starts : (rules : Rules) (bytes : List ℕ) (walk : Walk) (refused : Bool) → IsWalk rules bytes walk refused → has_magic bytes ≡ true → 4 ≤ length bytes → Stands rules bytes walk
 walk_starts rules bytes walk refused w h l = go w.stands where

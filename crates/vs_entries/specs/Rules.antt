@@ -24,7 +24,7 @@ use Rattle.vs_rows.specs.Tables.{schema_of, with_map}
 use Rattle.vs_rows.specs.Rows.{rows_meant}
 use Rattle.vs_log.specs.declared.state.Counted.{Counted}
 use Rattle.vs_log.specs.declared.state.Counted.TheVariants.{Changed}
-use Rattle.vs_log.specs.Queries.{statement_of}
+use Rattle.vs_entries.specs.Queries.{statement_of}
 use Rattle.vs_log.specs.Table.{Rules, ◌>>=◌}
 
 -- the work is no journal

@@ -1,6 +1,6 @@
 pub mod Events
 pub mod Table
-pub mod Queries
+pub mod States
 pub mod Meaning
 pub mod Productions
 pub mod Laws

@@ -4,7 +4,7 @@
 
 mod event;
 mod laws;
-mod state;
+mod statement;
 #[cfg(test)]
 mod tests;
 
@@ -12,4 +12,4 @@ pub use event::Sort;
 pub use laws::{
     law_base, law_beginnings, law_distinct, law_growth, law_longest, law_meaning, law_places,
 };
-pub use state::{Counted, Place, State, Statement};
+pub use statement::Statement;

@@ -4,11 +4,11 @@ use crate::{
 
 #[test]
 fn laws_are_called() {
-    law_beginnings();
-    law_meaning();
-    law_growth();
-    law_longest();
-    law_distinct();
-    law_base();
-    law_places();
+    law_beginnings::<u8>();
+    law_meaning::<u8>();
+    law_growth::<u8>();
+    law_longest::<u8>();
+    law_distinct::<u8>();
+    law_base::<u8>();
+    law_places::<u8>();
 }
