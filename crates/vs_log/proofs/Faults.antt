@@ -1,8 +1,9 @@
 -- With more bytes entries come behind those that stood, and a fault stays.
-use Rattle.std.proofs.Common.{◌≡◌, ◌≤◌, ◌+◌, ℕ, Bool, true, false, List, ◌++◌, length, take, drop, nat_lt, if◌then◌else◌, Option, Some, None, Err, refl, ap, sym, subst, ◌∙◌, append_assoc, arith, length-append}
+use Rattle.std.proofs.Common.{◌≡◌, ◌≤◌, ◌+◌, ℕ, Bool, true, false, List, [], ◌∷◌, ◌++◌, length, take, drop, nat_lt, if◌then◌else◌, Option, Some, None, Err, refl, ap, sym, subst, ◌∙◌, append_assoc, arith, length-append}
 use Rattle.std.specs.Prelude.{◌⊎◌}
 use Rattle.std.proofs.lemmas.Bool.{ltb-false, le-ltb}
 use Rattle.std.proofs.lemmas.List.{take-append-le}
+use Rattle.vs_base.specs.declared.Gtid.{Gtid}
 use Rattle.vs_base.specs.declared.Why.{Why}
 use Rattle.vs_base.specs.declared.Why.TheVariants.{BadLength, TooLarge}
 use Rattle.vs_gtid.specs.Logs.{Log}
@@ -12,7 +13,7 @@ use Rattle.vs_binlog.specs.Heads.{length_of}
 use Rattle.vs_log.specs.Events.{sort_of, is_held, limit, last_place, joined}
 use Rattle.vs_log.specs.Table.{Rules, bytes_with, line, step}
 use Rattle.vs_log.specs.Meaning.{head_refusal, log_of, at_place, log_meant}
-use Rattle.vs_log.specs.Productions.{IsWrong, Refuses, Parts, Means}
+use Rattle.vs_log.specs.Productions.{EntryEndsAt, IsWrong, Refuses, Parts, Means, StandsAt}
 use Rattle.vs_log.specs.Laws.{Grows}
 use Rattle.vs_log.proofs.Cuts.{length_of-append, bytes_with-append, held, Holds}
 use Rattle.vs_log.proofs.Follows.{means}
@@ -131,5 +132,39 @@ given_stay rules bytes more n h =
     let m = more_entries rules bytes more in
     ap (λ z. take n z) m.1 ∙ take-append-le n (log_meant rules bytes).entries m.0 h
 
+begins_stay : {M : Type 0} (rules : Rules M) (bytes more : List ℕ) (g : Gtid) (at : ℕ) → StandsAt rules bytes g at → StandsAt rules (bytes ++ more) g at
+begins_stay rules bytes more g at s = record {
+  before = s.before;
+  event = s.event;
+  rest = s.rest ++ more;
+  cut = cut_longer bytes more (s.before ++ s.event ∷ []) s.rest s.cut;
+  place = s.place;
+  state = s.state;
+  begins = s.begins;
+  names = s.names;
+}
+
+ends_stay : {M : Type 0} (rules : Rules M) (bytes more : List ℕ) (n at : ℕ) → EntryEndsAt rules bytes n at → EntryEndsAt rules (bytes ++ more) n at
+ends_stay rules bytes more n at e = record {
+  before = e.before;
+  last = e.last;
+  rest = e.rest ++ more;
+  cut = cut_longer bytes more (e.before ++ e.last ∷ []) e.rest e.cut;
+  place = e.place;
+  without = e.without;
+  begins_without = e.begins_without;
+  few = e.few;
+  state = e.state;
+  begins = e.begins;
+  more = e.more;
+}
+
 pub grows : {M : Type 0} (rules : Rules M) (bytes more : List ℕ) → Grows rules bytes more
-grows rules bytes more = record { entries = more_entries rules bytes more; given = given_stay rules bytes more; faulty = fault_stays rules bytes more; whole = whole_log rules bytes }
+grows rules bytes more = record {
+  entries = more_entries rules bytes more;
+  given = given_stay rules bytes more;
+  faulty = fault_stays rules bytes more;
+  begins = begins_stay rules bytes more;
+  ends = ends_stay rules bytes more;
+  whole = whole_log rules bytes;
+}

@@ -8,15 +8,9 @@ use Rattle.vs_log.specs.States.{State}
 use Rattle.vs_binlog.specs.Heads.{Event}
 use Rattle.vs_log.specs.Table.{Rules, step}
 use Rattle.vs_log.specs.Productions.{IsGtid}
+use Rattle.vs_log.specs.Steps.{open_gtid}
 use Rattle.vs_log.proofs.Moves.{Moves, step_moves}
 use Rattle.vs_log.proofs.Moves.Moves.{formatted, passed_between, passed_named, passed_inside, based, names, singles, begins, saves, maps_on, tells, ends}
-
--- the GTID of the entry that is open
-abbrev pub open_gtid : {M : Type 0} → Place M → Option Gtid
-open_gtid Front = None
-open_gtid (Between first) = None
-open_gtid (Named g bytes) = Some g
-open_gtid (Inside g bytes maps work) = Some g
 
 -- what an event does: where no entry is open, it may begin one, and none ends; the one that is open goes on, or ends
 abbrev pub Opens : {M : Type 0} → State M → Event → Option Gtid → State M → Type 0

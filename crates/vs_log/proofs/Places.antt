@@ -96,7 +96,7 @@ not_behind rules s u es e f g is also v =
     not_again rules c.0 u es f g (step_names rules s e c.0 g is c.1).1 also c.2
 
 -- the same bytes begin with the same whole event, and the same is left
-same_head : (e f : Event) (xs ys rest more : List ℕ) → IsEvent e → IsEvent f → (e ++ xs) ++ rest ≡ (f ++ ys) ++ more → (e ≡ f) × (xs ++ rest ≡ ys ++ more)
+pub same_head : (e f : Event) (xs ys rest more : List ℕ) → IsEvent e → IsEvent f → (e ++ xs) ++ rest ≡ (f ++ ys) ++ more → (e ≡ f) × (xs ++ rest ≡ ys ++ more)
 same_head e f xs ys rest more is also h =
     let k : e ++ (xs ++ rest) ≡ f ++ (ys ++ more) = sym (append_assoc e xs rest) ∙ h ∙ append_assoc f ys more in (
       sym (head_taken e (xs ++ rest) is) ∙ ap (λ z. take (length_of z) z) k ∙ head_taken f (ys ++ more) also,

@@ -206,6 +206,20 @@ pub record StandsAt {M : Type 0} (rules : Rules M) (bytes : List ℕ) (g : Gtid)
   pub begins : Begins rules (before ++ event ∷ []) state
   pub names : IsGtid event g
 
+-- The entry behind n others ends at this place: the events up to there begin a log of n + 1 entries, and without the last of them one of n.
+pub record EntryEndsAt {M : Type 0} (rules : Rules M) (bytes : List ℕ) (n at : ℕ) : Type 0 where
+  pub before : List Event
+  pub last : Event
+  pub rest : List ℕ
+  pub cut : IsCut bytes (before ++ last ∷ []) rest
+  pub place : at ≡ 4 + length (joined (before ++ last ∷ []))
+  pub without : State M
+  pub begins_without : Begins rules before without
+  pub few : length without.entries ≡ n
+  pub state : State M
+  pub begins : Begins rules (before ++ last ∷ []) state
+  pub more : length state.entries ≡ n + 1
+
 -- a whole log
 pub record IsWholeLog {M : Type 0} (rules : Rules M) (bytes : List ℕ) (base : Position) (entries : List Entry) : Type 0 where
   pub events : List Event

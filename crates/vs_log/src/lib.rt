@@ -10,6 +10,7 @@ mod tests;
 
 pub use event::Sort;
 pub use laws::{
-    law_base, law_beginnings, law_distinct, law_growth, law_longest, law_meaning, law_places,
+    law_base, law_beginnings, law_changes, law_distinct, law_entries, law_growth, law_longest,
+    law_meaning, law_places, law_steps,
 };
 pub use statement::Statement;
