@@ -73,7 +73,7 @@ fn drain(reader: &mut Reader, entries: &mut List<Placed>) -> Result<Option<LogFa
 {
     'entries: loop {
         match reader.next_entry() {
-            Ok(Took::Entry { entry, at }) => entries.push(Placed { entry, at })?,
+            Ok(Took::Entry { entry, at, .. }) => entries.push(Placed { entry, at })?,
             Ok(Took::More) => return Ok(None),
             Err(LogRefusal::BadLog { offset, why }) => return Ok(Some(LogFault { offset, why })),
             Err(LogRefusal::Memory) => return Err(AllocError),

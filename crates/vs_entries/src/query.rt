@@ -12,7 +12,7 @@ use vs_log::Statement;
 use vs_rows::is_schema_of;
 
 /// What the body of a query event says in the log of a shard of the keyspace.
-#[tactic(auto, unfolding(vs_entries::specs::Queries::statement_of))]
+#[tactic(auto, unfolding(crate::specs::Queries::statement_of))]
 pub fn read_statement(alloc: Global, body: &[u8], keyspace: &[u8]) -> Result<Statement, Refusal>
     ensures { Answers result (statement_of keyspace.now body.now) }
 {
