@@ -1,22 +1,27 @@
 -- An entry ends at one place of the bytes.
-use Rattle.std.proofs.Common.{◌≡◌, ◌≤◌, ◌+◌, ℕ, List, [], ◌∷◌, ◌++◌, length, Option, Some, None, Result, Ok, refl, ap, sym, subst, ◌∙◌, arith, length-append}
+use Rattle.std.proofs.Common.{◌≡◌, ◌≤◌, ◌+◌, ℕ, false, List, [], ◌∷◌, ◌++◌, length, take, Option, Some, None, Result, Ok, refl, ap, sym, subst, ◌∙◌, append_assoc, arith, length-append}
 use Rattle.std.specs.Prelude.{◌⊎◌}
 use Rattle.std.specs.List.{AllByRecursion}
-use Rattle.std.proofs.lemmas.List.{append_cancel_left}
+use Rattle.std.proofs.lemmas.List.{append-nil, append_cancel_left, take_at}
 use Rattle.vs_base.specs.declared.Gtid.{Gtid}
 use Rattle.vs_base.specs.declared.Why.{Why}
-use Rattle.vs_log.specs.States.{State}
+use Rattle.vs_log.specs.States.{Place, State}
+use Rattle.vs_log.specs.States.Place.{Between}
 use Rattle.vs_binlog.specs.Heads.{Event}
 use Rattle.vs_log.specs.Events.{magic, joined, IsEvent}
 use Rattle.vs_log.specs.Table.{Rules, step}
-use Rattle.vs_log.specs.Meaning.{front}
-use Rattle.vs_log.specs.Productions.{EntryEndsAt}
+use Rattle.vs_log.specs.Meaning.{front, is_base_known, log_meant}
+use Rattle.vs_log.specs.Productions.{EntryEndsAt, IsCut, IsLog, IsWholeLog}
 use Rattle.vs_log.specs.Laws.{HasOnePlace}
 use Rattle.vs_log.specs.Steps.{open_gtid}
-use Rattle.vs_log.proofs.Moves.{chained}
+use Rattle.vs_log.proofs.Bases.{knows_its_base}
+use Rattle.vs_log.proofs.Growth.{entries_behind}
+use Rattle.vs_log.proofs.Longest.{closed, is_between, stands}
+use Rattle.vs_log.proofs.Moves.{Moves, chained, step_moves}
+use Rattle.vs_log.proofs.Moves.Moves.{formatted, passed_between, passed_named, passed_inside, based, names, singles, begins, saves, maps_on, tells, ends}
 use Rattle.vs_log.proofs.Names.{Opens, step_opens}
 use Rattle.vs_log.proofs.Places.{one_place, same_head}
-use Rattle.vs_log.proofs.Takes.{walk}
+use Rattle.vs_log.proofs.Takes.{walk, walk-append}
 use Rattle.vs_log.proofs.Complete.{complete}
 
 -- entries stay
@@ -76,5 +81,54 @@ one_end rules bytes n at other a b =
     (complete rules b.before b.without b.begins_without) b.few (complete rules (b.before ++ b.last ∷ []) b.state b.begins) b.more in
     a.place ∙ ap (λ z. 4 + length (joined z)) same ∙ sym b.place
 
+-- an event with which an entry comes leaves none open
+grew : {M : Type 0} (rules : Rules M) (s : State M) (e : Event) (place : Place M) (next : State M) → length next.entries ≡ length s.entries + 1 → Moves rules s e place next → next.place ≡ Between false
+grew rules s e place next h (formatted is) = absurd (omega (arith, h))
+grew rules s e place next h (passed_between first k) = absurd (omega (arith, h))
+grew rules s e place next h (passed_named g bytes k) = absurd (omega (arith, h))
+grew rules s e place next h (passed_inside g bytes maps work k) = absurd (omega (arith, h))
+grew rules s e place next h (based set k r) = absurd (omega (arith, h))
+grew rules s e place next h (names first g is new) = absurd (omega (arith, h))
+grew rules s e place next h (singles g bytes statement work says one) = refl
+grew rules s e place next h (begins g bytes says) = absurd (omega (arith, h))
+grew rules s e place next h (saves g bytes maps work says) = absurd (omega (arith, h))
+grew rules s e place next h (maps_on g bytes maps work more is) = absurd (omega (arith, h))
+grew rules s e place next h (tells g bytes maps work counted more is t) = absurd (omega (arith, h))
+grew rules s e place next h (ends g bytes maps work end) = refl
+
+last_step : {M : Type 0} (rules : Rules M) (bytes : List ℕ) (n at : ℕ) (e : EntryEndsAt rules bytes n at) → step rules e.without e.last ≡ Ok e.state
+last_step rules bytes n at e =
+    let all = sym (walk-append rules front e.without e.before (e.last ∷ []) (complete rules e.before e.without e.begins_without)) ∙ complete rules (e.before ++ e.last ∷ []) e.state e.begins in
+    let c = chained (step rules e.without e.last) (λ z. walk rules z []) e.state all in
+    let same : c.0 ≡ e.state = (let q : ◌≡◌ {A = Result (State _) Why} (Ok c.0) (Ok e.state) = c.2 in cc) in
+    c.1 ∙ ap (λ z. Ok z) same
+
+-- the bytes up to the end of an entry
+front_of_bytes : (bytes : List ℕ) (events : List Event) (rest : List ℕ) (at : ℕ) → IsCut bytes events rest → at ≡ 4 + length (joined events) → IsCut (take at bytes) events []
+front_of_bytes bytes events rest at c place =
+    let long : length (magic ++ joined events) ≡ at = omega (arith, place, length-append magic (joined events)) in
+    record {
+      are =
+          ap (λ z. take at z) (c.are ∙ sym (append_assoc magic (joined events) rest))
+          ∙ take_at (magic ++ joined events) rest at long ∙ ap (λ z. magic ++ z) (sym (append-nil (joined events)));
+      whole = c.whole;
+      short = c.short;
+    }
+
+whole_front : {M : Type 0} (rules : Rules M) (bytes : List ℕ) (n at : ℕ) → EntryEndsAt rules bytes n at →
+    IsWholeLog rules (take at bytes) (log_meant rules bytes).base (take (n + 1) (log_meant rules bytes).entries)
+whole_front rules bytes n at e =
+    let events = e.before ++ e.last ∷ [] in
+    let between : e.state.place ≡ Between false = grew rules e.without e.last e.without.place e.state (omega (arith, e.few, e.more)) (step_moves rules e.without e.last e.state (last_step rules bytes n at e)).1 in
+    let st = stands rules e.before e.last e.state e.begins in
+    let none : st.opened ≡ [] = closed rules st.known st.opened e.state e.state.place (ap is_between between) st.begun in
+    let log : IsLog rules events e.state.base e.state.entries st.known [] = subst (λ z. IsLog rules events e.state.base e.state.entries st.known z) none st.log in
+    let base = ((knows_its_base rules bytes).behind events e.state e.rest e.cut e.begins (ap (λ z. is_base_known z None) between)).1 in
+    let more = entries_behind rules bytes events e.rest e.state e.cut e.begins in
+    let entries : take (n + 1) (log_meant rules bytes).entries ≡ e.state.entries = ap (λ z. take (n + 1) z) more.1 ∙ take_at e.state.entries more.0 (n + 1) e.more in
+    subst (λ b. IsWholeLog rules (take at bytes) b (take (n + 1) (log_meant rules bytes).entries)) (sym base)
+    (subst (λ es. IsWholeLog rules (take at bytes) e.state.base es) (sym entries)
+    (record { events = events; cut = front_of_bytes bytes events e.rest at e.cut e.place; known = st.known; log = log }))
+
 pub has_one_place : {M : Type 0} (rules : Rules M) (bytes : List ℕ) → HasOnePlace rules bytes
-has_one_place rules bytes = record { begins = one_place rules bytes; ends = one_end rules bytes }
+has_one_place rules bytes = record { begins = one_place rules bytes; ends = one_end rules bytes; whole = whole_front rules bytes }

@@ -44,15 +44,15 @@ NoneWhole rules events = (these tail : List Event) (b k : Position) (es : List E
 abbrev BestOrNone : {M : Type 0} → Rules M → List Event → Position → List Entry → Type 0
 BestOrNone rules events base entries = Best rules events base entries ⊎ (NoneWhole rules events × (base ≡ []) × (entries ≡ []))
 
-abbrev is_between : {M : Type 0} → Place M → Bool
+abbrev pub is_between : {M : Type 0} → Place M → Bool
 is_between (Between first) = true
 is_between place = false
 
-closed : {M : Type 0} (rules : Rules M) (known : Position) (opened : List Event) (s : State M) (place : Place M) → is_between place ≡ true → IsBegun rules known opened s place → opened ≡ []
+pub closed : {M : Type 0} (rules : Rules M) (known : Position) (opened : List Event) (s : State M) (place : Place M) → is_between place ≡ true → IsBegun rules known opened s place → opened ≡ []
 closed rules known opened s (Between first) h b = b.0
 closed rules known opened s place h b = absurd (cc)
 
-stands : {M : Type 0} (rules : Rules M) (events : List Event) (e : Event) (s : State M) → Begins rules (events ++ e ∷ []) s → Stands rules (events ++ e ∷ []) s
+pub stands : {M : Type 0} (rules : Rules M) (events : List Event) (e : Event) (s : State M) → Begins rules (events ++ e ∷ []) s → Stands rules (events ++ e ∷ []) s
 stands rules [] e s b = b
 stands rules (f ∷ events) e s b = b
 

@@ -92,6 +92,8 @@ pub record HasOnePlace {M : Type 0} (rules : Rules M) (bytes : List ℕ) : Type 
   pub begins : (g : Gtid) (at other : ℕ) → StandsAt rules bytes g at → StandsAt rules bytes g other → at ≡ other
   -- the entry behind n others ends at one place
   pub ends : (n at other : ℕ) → EntryEndsAt rules bytes n at → EntryEndsAt rules bytes n other → at ≡ other
+  -- and up to there the bytes are a whole log, of the same base and of the entries up to that one
+  pub whole : (n at : ℕ) → EntryEndsAt rules bytes n at → IsWholeLog rules (take at bytes) (log_meant rules bytes).base (take (n + 1) (log_meant rules bytes).entries)
 
 -- How far a log is read, event by event, and what it means where the reading ends.
 pub record ReadsInSteps {M : Type 0} (rules : Rules M) : Type 0 where
