@@ -103,8 +103,8 @@ too_early gathered =
     cons_is_not_nil one []
     (subst (λ p. due (shard 1 60) (resharded merge) p ≡ []) (same_position waiting (shard 1 60) arrived.0 [] arrived.1 refl) arrived.2)
 
--- a keyspace stands for its shards, in the order of the cluster
-asks : asked ((shard 1 80, log []) ∷ (shard 1 81, log []) ∷ (shard 2 1, log []) ∷ []) (OneShard (shard 3 1) FromEnd ∷ AllShards (1 ∷ []) (From []) ∷ [])
+-- a keyspace stands for its shards in the order of their names, whatever the order of the cluster
+asks : asked ((shard 1 81, log []) ∷ (shard 2 1, log []) ∷ (shard 1 80, log []) ∷ []) (OneShard (shard 3 1) FromEnd ∷ AllShards (1 ∷ []) (From []) ∷ [])
     ≡ (shard 3 1, FromEnd) ∷ (shard 1 80, From []) ∷ (shard 1 81, From []) ∷ []
 asks = refl
 

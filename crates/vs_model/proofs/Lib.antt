@@ -27,3 +27,4 @@ mod CopyFronts
 mod CopyFrames
 mod CopiesLaw
 mod CopiesExamples
+pub mod Shards

@@ -1,7 +1,10 @@
 -- Which first vectors a request may have, and which head of the shards' pieces is sent next.
-use Rattle.std.specs.Prelude.{◌≡◌, ℕ, ◌<◌, ◌≤◌, true, List, [], ◌∷◌, map, length, take, nat_eq, slice_index, if◌then◌else◌}
+use Rattle.std.specs.Prelude.{◌≡◌, ℕ, ◌<◌, ◌≤◌, Bool, true, List, [], ◌∷◌, map, length, take, nat_eq, slice_index, if◌then◌else◌}
 use Rattle.std.specs.List.{filter, flat_map, AllZip}
-use Rattle.std.specs.Cmp.Lexicographic.{pointwise}
+use Rattle.std.specs.BTreeSet.{insert_key}
+use Rattle.std.specs.Ordering.{nat_cmp}
+use Rattle.std.specs.Cmp.Lexicographic.{pointwise, slice_cmp}
+use Rattle.std.specs.declared.cmp.Ordering.{Ordering}
 use Rattle.vs_base.specs.declared.ShardName.{ShardName}
 use Rattle.vs_base.specs.declared.LastKey.{LastKey}
 use Rattle.vs_base.specs.Names.{names_differ}
@@ -22,9 +25,21 @@ pub data Wanted : Type 0 where
   OneShard : (name : ShardName) (start : StartAt) → Wanted
   AllShards : (keyspace : List ℕ) (start : StartAt) → Wanted
 
--- the shards of a keyspace, in the order of the cluster
+-- which of two shards comes first, by the bytes of their names
+abbrev pub by_shard : ShardName → ShardName → Ordering
+by_shard s t = slice_cmp nat_cmp s.shard t.shard
+
+-- shards of a keyspace, ascending by the bytes of their names, each once
+abbrev pub ascending : List ShardName → List ShardName
+ascending [] = []
+ascending (s ∷ names) = insert_key by_shard (ascending names) s
+
+abbrev pub is_of : List ℕ → ShardName → Bool
+is_of keyspace s = pointwise nat_eq s.keyspace keyspace
+
+-- the shards of a keyspace, whatever the order of the cluster
 abbrev pub shards_of : Cluster → List ℕ → List ShardName
-shards_of cluster keyspace = filter (λ s. pointwise nat_eq s.keyspace keyspace) (map (λ c. c.0) cluster)
+shards_of cluster keyspace = ascending (filter (is_of keyspace) (map (λ c. c.0) cluster))
 
 -- each shard that an entry asks for, and from where
 abbrev pub asked_by : Cluster → Wanted → List (ShardName × StartAt)

@@ -5,8 +5,9 @@
 #[cfg(test)]
 mod tests;
 
+ghost use Rattle.std.specs.List.Sorted.{IsStrictlySortedBy};
 ghost use Rattle.std.specs.List.{AllByRecursion, Contains};
-ghost use Rattle.std.specs.Prelude.{[], ◌++◌, ◌∷◌, ◌≡◌, IsTrue, List, None, Option, Some, false, ℕ};
+ghost use Rattle.std.specs.Prelude.{[], ◌++◌, ◌&&◌, ◌∷◌, ◌≡◌, IsTrue, List, None, Option, Some, false, map, ℕ};
 ghost use Rattle.vs_base.specs.declared.ShardName.{ShardName};
 ghost use Rattle.vs_gtid.specs.declared.Entry.{Entry};
 ghost use Rattle.vs_gtid.specs.declared.JournalValue.{JournalValue};
@@ -27,8 +28,9 @@ ghost use Rattle.vs_model.specs.Logs.{
   log_of,
   stop,
 };
-ghost use Rattle.vs_model.specs.Names.{Position};
+ghost use Rattle.vs_model.specs.Names.{Position, is_in};
 ghost use Rattle.vs_model.specs.Reached.{HasAllDue, IsFinal, IsSettled, StartsAreUnique, StartsToStream, start_of};
+ghost use Rattle.vs_model.specs.Requests.{by_shard, is_of, shards_of};
 ghost use Rattle.vs_model.specs.Steps.{AreFirstDue, SendsCopy, SendsTx, Step, Steps};
 ghost use Rattle.vs_model.specs.Vectors.Place.{Fresh};
 ghost use Rattle.vs_model.specs.Vectors.{Copies, IsCanonicalPlace, IsCanonicalVector, Place, Vector, place_of, stands, switched};
@@ -123,4 +125,13 @@ pub fn law_copies()
         (table : List ℕ) (key : Image) → Contains (rules s).tables table →
         client_row (rules s) told_key (frames_of s fs) table key
         ≡ copied_row (rules s) place (changes_in (front (log_of cluster s) (start_of place))) table key }
+{}
+
+/// An entry for a whole keyspace stands for the keyspace's shards, and no others, each once, and
+/// ascending by the bytes of their names.
+#[tactic(auto, using(crate::proofs::Shards::shards_ascend, crate::proofs::Shards::shards_are))]
+pub fn law_shards()
+    ensures ascending { (cluster : Cluster) (keyspace : List ℕ) → IsStrictlySortedBy by_shard (shards_of cluster keyspace) }
+    ensures members { (cluster : Cluster) (keyspace : List ℕ) (s : ShardName) →
+        is_in s (shards_of cluster keyspace) ≡ (is_of keyspace s && is_in s (map (λ c. c.0) cluster)) }
 {}

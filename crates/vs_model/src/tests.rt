@@ -1,5 +1,6 @@
 use crate::{
-    law_copies, law_core, law_due, law_final, law_frames, law_lane, law_resume, law_steps,
+    law_copies, law_core, law_due, law_final, law_frames, law_lane, law_resume, law_shards,
+    law_steps,
 };
 
 #[test]
@@ -12,4 +13,5 @@ fn laws_are_called() {
     law_lane();
     law_core();
     law_copies();
+    law_shards();
 }

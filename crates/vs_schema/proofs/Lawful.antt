@@ -16,7 +16,7 @@ use Rattle.vs_schema.specs.Kinds.{kind_of, same}
 use Rattle.vs_schema.specs.Lines.{is_empty, lines_of, sole, words_of}
 use Rattle.vs_schema.specs.Laws.{Ascend, IsKey, IsLawful, IsSound, IsWhole, same_column, same_place}
 use Rattle.vs_schema.specs.Rules.{Draft, by_line, by_lines, by_name, by_verb, by_words, closed, finished, in_open, is_name, is_taken, key_place, key_with, keyed, may_be_keyed, may_come, names_column, names_table, new_place, opened, opens, reopened, schema_of, start, with_begun, with_column, with_key, with_kind, with_skipped, with_table}
-use Rattle.vs_schema.proofs.LawfulLemmas.{all_more, differ_more, guarded, untrue, with_table-all, with_table-ascends, with_table-none}
+use Rattle.vs_schema.proofs.LawfulLemmas.{all_more, differ_more, guarded, untrue, with_table-all, with_table-ascends}
 
 same_turned : (a b : List ℕ) → same a b ≡ same b a
 same_turned = nat_list_eq_equiv.symm
@@ -40,10 +40,6 @@ kept_places : (cs : List Column) (c : Column) (key : List ℕ) → AllByRecursio
 kept_places cs c [] h = tt
 kept_places cs c (place ∷ key) h = (kept_place cs c place h.0, kept_places cs c key h.1)
 
--- a table that keeps the rules, with the name of another
-abbrev Keeps : Table → Table → Type 0
-Keeps t u = IsSound u × (u.name ≡ t.name)
-
 with_more : (t : Table) (c : Column) → IsSound t → may_come c.name t.columns ≡ true → IsSound (record t { columns = t.columns ++ c ∷ [] })
 with_more t c s may =
     let a = and_parts (is_name c.name) (not (list_any (names_column c.name) t.columns) && nat_lt (length t.columns) 4096) may in
@@ -56,18 +52,18 @@ with_more t c s may =
       key = record { each = kept_places t.columns c t.key s.key.each; once = s.key.once };
     }
 
-kinded : (t u : Table) (name : List ℕ) (kind : Option ColumnKind) → with_kind t name kind ≡ Some u → IsSound t → Keeps t u
+kinded : (t u : Table) (name : List ℕ) (kind : Option ColumnKind) → with_kind t name kind ≡ Some u → IsSound t → IsSound u
 kinded t u name None h s = absurd (cc)
 kinded t u name (Some kind) h s =
     let c : Column = record { name = name; kind = kind } in
     let g = guarded (may_come name t.columns) (Some (record t { columns = t.columns ++ c ∷ [] })) u h in
     let is : record t { columns = t.columns ++ c ∷ [] } ≡ u = some_is _ u g.1 in
-    subst (Keeps t) is (with_more t c s g.0, refl)
+    subst IsSound is (with_more t c s g.0)
   where
     some_is : (x y : Table) → Some x ≡ Some y → x ≡ y
     some_is x y e = cc
 
-column_keeps : (words : List (List ℕ)) (t u : Table) → with_column t words ≡ Some u → IsSound t → Keeps t u
+column_keeps : (words : List (List ℕ)) (t u : Table) → with_column t words ≡ Some u → IsSound t → IsSound u
 unfolding with_column
 column_keeps [] t u h s = absurd (cc)
 column_keeps (name ∷ words) t u h s = kinded t u name (kind_of words) h s
@@ -99,48 +95,46 @@ key_is cs (name ∷ names) key out h k = go (key_place cs key name) refl h (λ p
           once = differ_more same_place places_turned key place k.once p.1;
         })
 
-keyed_keeps : (t u : Table) (key : Option (List ℕ)) → ((out : List ℕ) → key ≡ Some out → IsKey t.columns out) → keyed t key ≡ Some u → IsSound t → Keeps t u
+keyed_keeps : (t u : Table) (key : Option (List ℕ)) → ((out : List ℕ) → key ≡ Some out → IsKey t.columns out) → keyed t key ≡ Some u → IsSound t → IsSound u
 keyed_keeps t u None is h s = absurd (cc)
 keyed_keeps t u (Some key) is h s =
     let same : record t { key = key } ≡ u = cc in
-    subst (Keeps t) same (record { named = s.named; few = s.few; names = s.names; once = s.once; key = is key refl }, refl)
+    subst IsSound same (record { named = s.named; few = s.few; names = s.names; once = s.once; key = is key refl })
 
-key_keeps : (words : List (List ℕ)) (t u : Table) → with_key t words ≡ Some u → IsSound t → Keeps t u
+key_keeps : (words : List (List ℕ)) (t u : Table) → with_key t words ≡ Some u → IsSound t → IsSound u
 unfolding with_key
 key_keeps words t u h s =
     let g = guarded (nat_eq (length t.key) 0) (keyed t (key_with t.columns [] words)) u h in
     keyed_keeps t u (key_with t.columns [] words) (λ out e. key_is t.columns words [] out e (record { each = tt; once = refl })) g.1 s
 
--- the open table keeps the rules, and none that is whole has its name
-abbrev IsNew : List Table → Option Table → Type 0
-IsNew tables None = Unit {0}
-IsNew tables (Some t) = IsSound t × (list_any (names_table t.name) tables ≡ false)
+-- the open table keeps the rules
+abbrev IsOpenSound : Option Table → Type 0
+IsOpenSound None = Unit {0}
+IsOpenSound (Some t) = IsSound t
 
 record Stands (d : Draft) : Type 0 where
   ascend : Ascend d.tables
   whole : AllByRecursion IsWhole d.tables
-  new : IsNew d.tables d.current
+  open_sound : IsOpenSound d.current
 
-record AreClosed (tables : List Table) (current : Option Table) (out : List Table) : Type 0 where
+record AreClosed (out : List Table) : Type 0 where
   ascend : Ascend out
   whole : AllByRecursion IsWhole out
-  lack : (name : List ℕ) → list_any (names_table name) tables ≡ false → opens name current ≡ false → list_any (names_table name) out ≡ false
 
-closing : (tables out : List Table) (current : Option Table) → closed tables current ≡ Some out → Ascend tables → AllByRecursion IsWhole tables → IsNew tables current → AreClosed tables current out
+closing : (tables out : List Table) (current : Option Table) → closed tables current ≡ Some out → Ascend tables → AllByRecursion IsWhole tables → IsOpenSound current → AreClosed out
 closing tables out None h a w n =
     let is : tables ≡ out = cc in
-    subst (AreClosed tables None) is (record { ascend = a; whole = w; lack = λ name l o. l })
+    subst AreClosed is (record { ascend = a; whole = w })
 closing tables out (Some t) h a w n = go (nat_eq (length t.columns) 0) refl h
   where
-    go : (b : Bool) → nat_eq (length t.columns) 0 ≡ b → ◌≡◌ {A = Option (List Table)} (if b then None else Some (with_table tables t)) (Some out) → AreClosed tables (Some t) out
+    go : (b : Bool) → nat_eq (length t.columns) 0 ≡ b → ◌≡◌ {A = Option (List Table)} (if b then None else Some (with_table tables t)) (Some out) → AreClosed out
     go true e k = absurd (cc)
     go false e k =
         let is : with_table tables t ≡ out = cc in
         let some : 1 ≤ length t.columns = counted (length t.columns) e in
-        subst (AreClosed tables (Some t)) is (record {
-          ascend = with_table-ascends tables t a n.1;
-          whole = with_table-all IsWhole tables t w (record { sound = n.0; some = some });
-          lack = λ name l o. with_table-none (names_table name) tables t l o;
+        subst AreClosed is (record {
+          ascend = with_table-ascends tables t a;
+          whole = with_table-all IsWhole tables t a w (record { sound = n; some = some });
         })
       where
         counted : (m : ℕ) → nat_eq m 0 ≡ false → 1 ≤ m
@@ -150,47 +144,39 @@ closing tables out (Some t) h a w n = go (nat_eq (length t.columns) 0) refl h
 some_is : {A : Type 0} (x y : A) → Some x ≡ Some y → x ≡ y
 some_is x y e = cc
 
-reset : (d e : Draft) (t : Table) (o : Option Table) → ((u : Table) → o ≡ Some u → Keeps t u) → reopened d o ≡ Some e → Stands d → list_any (names_table t.name) d.tables ≡ false → Stands e
-reset d e t None keeps h s new = absurd (cc)
-reset d e t (Some u) keeps h s new =
-    let k = keeps u refl in
-    subst Stands (some_is (record d { current = Some u }) e h) (record {
-      ascend = s.ascend;
-      whole = s.whole;
-      new = (k.0, subst (λ name. list_any (names_table name) d.tables ≡ false) (sym k.1) new);
-    })
+reset : (d e : Draft) (o : Option Table) → ((u : Table) → o ≡ Some u → IsSound u) → reopened d o ≡ Some e → Stands d → Stands e
+reset d e None keeps h s = absurd (cc)
+reset d e (Some u) keeps h s = subst Stands (some_is (record d { current = Some u }) e h) (record { ascend = s.ascend; whole = s.whole; open_sound = keeps u refl })
 
-reopening : (d e : Draft) (f : Table → Option Table) → ((t u : Table) → f t ≡ Some u → IsSound t → Keeps t u) → in_open f d d.current ≡ Some e → Stands d → Stands e
-reopening d e f keeps h s = go d.current s.new h
+reopening : (d e : Draft) (f : Table → Option Table) → ((t u : Table) → f t ≡ Some u → IsSound t → IsSound u) → in_open f d d.current ≡ Some e → Stands d → Stands e
+reopening d e f keeps h s = go d.current s.open_sound h
   where
-    go : (c : Option Table) → IsNew d.tables c → in_open f d c ≡ Some e → Stands e
+    go : (c : Option Table) → IsOpenSound c → in_open f d c ≡ Some e → Stands e
     go None n k = absurd (cc)
-    go (Some t) n k = reset d e t (f t) (λ u is. keeps t u is n.0) k s n.1
+    go (Some t) n k = reset d e (f t) (λ u is. keeps t u is n) k s
 
 beginning : (name : List ℕ) (d e : Draft) → with_begun d name ≡ Some e → Stands d → Stands e
 unfolding with_begun
 beginning name d e h s =
     let g = guarded (is_name name && not (is_taken d name)) (opened d name (closed d.tables d.current)) e h in
     let parts = and_parts (is_name name) (not (is_taken d name)) g.0 in
-    let a = or_parts (list_any (names_table name) d.tables) (list_any (λ skipped. same skipped name) d.skipped || opens name d.current) (untrue _ parts.1) in
-    let b = or_parts (list_any (λ skipped. same skipped name) d.skipped) (opens name d.current) a.1 in
-    go (closed d.tables d.current) refl g.1 parts.0 a.0 b.1
+    go (closed d.tables d.current) refl g.1 parts.0
   where
-    go : (o : Option (List Table)) → closed d.tables d.current ≡ o → opened d name o ≡ Some e → is_name name ≡ true → list_any (names_table name) d.tables ≡ false → opens name d.current ≡ false → Stands e
-    go None c k named lacked apart = absurd (cc)
-    go (Some tables) c k named lacked apart =
-        let z = closing d.tables tables d.current c s.ascend s.whole s.new in
+    go : (o : Option (List Table)) → closed d.tables d.current ≡ o → opened d name o ≡ Some e → is_name name ≡ true → Stands e
+    go None c k named = absurd (cc)
+    go (Some tables) c k named =
+        let z = closing d.tables tables d.current c s.ascend s.whole s.open_sound in
         subst Stands (some_is _ e k) (record {
           ascend = z.ascend;
           whole = z.whole;
-          new = (record { named = named; few = omega arith; names = refl; once = refl; key = record { each = tt; once = refl } }, z.lack name lacked apart);
+          open_sound = record { named = named; few = omega arith; names = refl; once = refl; key = record { each = tt; once = refl } };
         })
 
 skipping : (name : List ℕ) (d e : Draft) → with_skipped d name ≡ Some e → Stands d → Stands e
 unfolding with_skipped
 skipping name d e h s =
     let g = guarded (is_name name && not (is_taken d name)) (Some (record d { skipped = d.skipped ++ name ∷ [] })) e h in
-    subst Stands (some_is (record d { skipped = d.skipped ++ name ∷ [] }) e g.1) (record { ascend = s.ascend; whole = s.whole; new = s.new })
+    subst Stands (some_is (record d { skipped = d.skipped ++ name ∷ [] }) e g.1) (record { ascend = s.ascend; whole = s.whole; open_sound = s.open_sound })
 
 by_sole : (f : List ℕ → Option Draft) (o : Option (List ℕ)) (e : Draft) → ((name : List ℕ) → f name ≡ Some e → Stands e) → by_name f o ≡ Some e → Stands e
 by_sole f None e stands h = absurd (cc)
@@ -222,7 +208,7 @@ line_stands (c ∷ cs) d e h s = chosen (c == 35) (Some d) (by_words d (words_of
 ended : (number : ℕ) (d : Draft) (o : Option (List Table)) (schema : Schema) → closed d.tables d.current ≡ o → finished number d o ≡ Ok schema → Stands d → IsLawful schema
 ended number d None schema c h s = absurd (cc)
 ended number d (Some tables) schema c h s =
-    let z = closing d.tables tables d.current c s.ascend s.whole s.new in
+    let z = closing d.tables tables d.current c s.ascend s.whole s.open_sound in
     let is : record { tables = tables; skipped = d.skipped } ≡ schema = cc in
     subst IsLawful is (record { ascend = z.ascend; whole = z.whole })
 
@@ -237,7 +223,7 @@ all_stand (line ∷ lines) number d schema h s = go (by_line d line) refl h (λ 
     go (Some next) e k rest = rest next k (line_stands line d next e s)
 
 pub lawful : (text : List ℕ) (schema : Schema) → schema_of text ≡ Ok schema → IsLawful schema
-lawful text schema h = all_stand (lines_of text) 1 start schema h (record { ascend = tt; whole = tt; new = tt })
+lawful text schema h = all_stand (lines_of text) 1 start schema h (record { ascend = tt; whole = tt; open_sound = tt })
 
 -- what is read is lawful, whether or not memory runs out
 pub lawful_if_read : (text : List ℕ) (read : Result Schema SchemaRefusal) → (read ≡ Err Memory) ⊎ (read ≡ schema_of text) → IfOk read IsLawful

@@ -6,7 +6,7 @@ use Rattle.vs_schema.specs.declared.fault.LineFault.TheVariants.{Wrong, Memory}
 use Rattle.vs_schema.specs.Rules.{Draft}
 
 abbrev pub draft_of : Builder → Draft
-draft_of b = record { tables = b.tables.items; skipped = b.skipped; current = b.current }
+draft_of b = record { tables = b.tables; skipped = b.skipped; current = b.current }
 
 -- it holds what it was meant to; where that is nothing it says so; unless memory ran out
 abbrev pub Holds : {A : Type 0} → Result (Unit {0}) LineFault → A → Option A → Type 0

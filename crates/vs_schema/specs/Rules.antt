@@ -1,7 +1,7 @@
 -- What each line of a schema text does, where it may stand; and which line is at fault.
 use Rattle.std.specs.Prelude.{ℕ, ◌+◌, ◌==◌, Bool, true, false, ◌&&◌, ◌||◌, not, nat_eq, nat_le, nat_lt, if◌then◌else◌, List, [], ◌∷◌, ◌++◌, length, Option, Some, None, Result, Ok, Err}
-use Rattle.std.specs.List.{insert, list_any, position, slice_get}
-use Rattle.std.specs.Ordering.{nat_cmp, is_lt}
+use Rattle.std.specs.List.{filter, list_any, position, slice_get}
+use Rattle.std.specs.Ordering.{nat_cmp, is_gt, is_lt}
 use Rattle.std.specs.Cmp.Lexicographic.{slice_cmp}
 use Rattle.vs_base.specs.declared.table.ColumnKind.{ColumnKind}
 use Rattle.vs_base.specs.declared.table.ColumnKind.TheVariants as kind
@@ -41,20 +41,17 @@ opens name (Some table) = names_table name table
 abbrev pub is_taken : Draft → List ℕ → Bool
 is_taken d name = list_any (names_table name) d.tables || (list_any (λ skipped. same skipped name) d.skipped || opens name d.current)
 
--- the table stands, by its name, before the others from its place on
-abbrev pub stands_below : List ℕ → Table → Bool
-stands_below name table = is_lt (slice_cmp nat_cmp table.name name)
+-- the table stands, by the bytes of its name, before the name
+abbrev pub stands_before : List ℕ → Table → Bool
+stands_before name table = is_lt (slice_cmp nat_cmp table.name name)
 
--- the place that was found, or the one behind all
-abbrev pub or_end : ℕ → Option ℕ → ℕ
-or_end n None = n
-or_end n (Some place) = place
+-- the same, behind it
+abbrev pub stands_behind : List ℕ → Table → Bool
+stands_behind name table = is_gt (slice_cmp nat_cmp table.name name)
 
-abbrev pub place_for : List ℕ → List Table → ℕ
-place_for name tables = or_end (length tables) (position (λ table. not (stands_below name table)) tables)
-
+-- the tables with one more: those before it by name, itself, and those behind it
 abbrev pub with_table : List Table → Table → List Table
-with_table tables table = insert tables (place_for table.name tables) table
+with_table tables table = filter (stands_before table.name) tables ++ table ∷ filter (stands_behind table.name) tables
 
 -- the tables with the open one, which has a column
 abbrev pub closed : List Table → Option Table → Option (List Table)

@@ -3,6 +3,7 @@
 #![tactic(auto)]
 
 mod builder;
+mod columns;
 mod cut;
 mod fault;
 mod key;
@@ -13,6 +14,8 @@ mod laws;
 mod number;
 mod refusal;
 mod schema;
+mod skipped_names;
+mod tables_by_name;
 #[cfg(test)]
 mod tests;
 

@@ -1,10 +1,13 @@
 ghost use Rattle.std.specs.Prelude.{◌≡◌, ◌⊎◌, Err, IfOk};
+ghost use Rattle.std.specs.List.{list_any};
 ghost use Rattle.vs_schema.specs.Laws.{IsLawful};
 ghost use Rattle.vs_schema.specs.Listing.{Lists};
-ghost use Rattle.vs_schema.specs.Rules.{schema_of};
+ghost use Rattle.vs_schema.specs.Kinds.{same};
+ghost use Rattle.vs_schema.specs.Reading.{draft_of};
+ghost use Rattle.vs_schema.specs.Rules.{closed, finished, schema_of};
 
 use crate::SchemaRefusal;
-use crate::builder::{Builder, is_skipped};
+use crate::builder::Builder;
 use crate::cut::{cut_line, is_same};
 use crate::fault::LineFault;
 use std::alloc::Global;
@@ -88,7 +91,14 @@ fn read_text(alloc: Global, text: &[u8]) -> Result<Schema, SchemaRefusal>
         line_number += 1;
         rest = more;
     }
-    match builder.close() {
+    finish(alloc, builder, line_number)
+}
+
+/// The schema of what was said up to the line of this number, which is behind the last.
+fn finish(alloc: Global, mut builder: Builder, line_number: usize) -> Result<Schema, SchemaRefusal>
+    ensures { (result ≡ Err SchemaRefusal.Memory) ⊎ (result ≡ finished line_number (draft_of builder) (closed builder.tables builder.current)) }
+{
+    match builder.close(alloc) {
         Ok(()) => {}
         Err(LineFault::Wrong) => return Err(SchemaRefusal::BadSchema { line: line_number }),
         Err(LineFault::Memory) => return Err(SchemaRefusal::Memory),
@@ -98,10 +108,13 @@ fn read_text(alloc: Global, text: &[u8]) -> Result<Schema, SchemaRefusal>
         skipped,
         ..
     } = builder;
-    Ok(Schema {
-        tables: List::from_vec(tables),
-        skipped,
-    })
+    match tables.into_list(alloc) {
+        Ok(tables) => Ok(Schema {
+            tables,
+            skipped: skipped.into_list(),
+        }),
+        Err(_) => Err(SchemaRefusal::Memory),
+    }
 }
 
 /// Copies of tables, in order.
@@ -113,4 +126,12 @@ fn copy_tables(alloc: Global, tables: &[Table]) -> Result<List<Table>, OutOfMemo
         copy.push(table.copy(alloc)?)?;
     }
     Ok(copy)
+}
+
+fn is_skipped(skipped: &[Text], name: &[u8]) -> bool
+    ensures { result ≡ list_any (λ skipped. same skipped name.now) skipped.now }
+{
+    skipped
+        .iter()
+        .any(|skipped| is_same(skipped.as_bytes(), name))
 }
