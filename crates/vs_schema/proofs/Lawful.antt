@@ -2,7 +2,7 @@
 use Rattle.std.proofs.Common.{◌≡◌, ◌≤◌, ◌+◌, ◌||◌, ◌&&◌, ℕ, zero, suc, Bool, true, false, not, List, [], ◌∷◌, ◌++◌, length, nat_eq, nat_lt, refl, sym, subst, arith, length-append}
 use Rattle.std.specs.Prelude.{◌⊎◌, IfOk, Option, Some, None, Result, Ok, Err, if◌then◌else◌, ◌==◌}
 use Rattle.std.specs.List.{AllByRecursion, list_all, list_any, position, slice_get}
-use Rattle.std.proofs.lemmas.Bool.{and_parts, and_from, or_parts, ltb-true}
+use Rattle.std.proofs.lemmas.Bool.{and_parts, and_from, ltb-true}
 use Rattle.std.proofs.lemmas.Bool.Decides.{nat_tests}
 use Rattle.std.proofs.lemmas.Cmp.{nat_list_eq_equiv}
 use Rattle.vs_base.specs.declared.table.ColumnKind.{ColumnKind}
@@ -15,7 +15,7 @@ use Rattle.vs_schema.specs.Words.{word_table, word_column, word_key, word_skip}
 use Rattle.vs_schema.specs.Kinds.{kind_of, same}
 use Rattle.vs_schema.specs.Lines.{is_empty, lines_of, sole, words_of}
 use Rattle.vs_schema.specs.Laws.{Ascend, IsKey, IsLawful, IsSound, IsWhole, same_column, same_place}
-use Rattle.vs_schema.specs.Rules.{Draft, by_line, by_lines, by_name, by_verb, by_words, closed, finished, in_open, is_name, is_taken, key_place, key_with, keyed, may_be_keyed, may_come, names_column, names_table, new_place, opened, opens, reopened, schema_of, start, with_begun, with_column, with_key, with_kind, with_skipped, with_table}
+use Rattle.vs_schema.specs.Rules.{Draft, by_line, by_lines, by_name, by_verb, by_words, closed, finished, in_open, is_name, is_taken, key_place, key_with, keyed, may_be_keyed, may_come, names_column, new_place, opened, reopened, schema_of, start, with_begun, with_column, with_key, with_kind, with_skipped, with_table}
 use Rattle.vs_schema.proofs.LawfulLemmas.{all_more, differ_more, guarded, untrue, with_table-all, with_table-ascends}
 
 same_turned : (a b : List ℕ) → same a b ≡ same b a

@@ -7,7 +7,7 @@ use Rattle.std.proofs.lemmas.List.Folds.{list_any-append}
 use Rattle.vs_base.specs.declared.table.Table.{Table}
 use Rattle.vs_schema.specs.Laws.{Ascend, differ}
 use Rattle.vs_schema.specs.Rules.{with_table}
-use Rattle.vs_schema.proofs.TableLemmas.{all_put, ascend_put, put, put_is, sorted_ascending}
+use Rattle.vs_schema.proofs.TableLemmas.{all_put, ascend_put, put_is, sorted_ascending}
 
 pub guarded : {A : Type 0} (b : Bool) (x : Option A) (y : A) → (if b then x else None) ≡ Some y → (b ≡ true) × (x ≡ Some y)
 guarded true x y h = (refl, h)
