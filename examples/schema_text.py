@@ -1,15 +1,13 @@
 #!/usr/bin/env python3
 """Makes a shard's schema text (docs/FORMATS.md, "Schema texts") from what MySQL says of its tables.
 
-Usage: mysql -B -N -e "select table_name, column_name, column_type, column_key from information_schema.columns
-           where table_schema = 'vt_commerce' order by table_name, ordinal_position" | examples/schema_text.py
+Usage: examples/schema_text.py --query vt_commerce | mysql -B -N | examples/schema_text.py > commerce/0.schema
        mysql -B -N -e "show columns from vt_commerce.customer" | examples/schema_text.py --table customer
 
-Further words of the query, which may be left out:
-  character_octet_length   behind column_key: the bytes of a text column, else its characters times those of
-                           --character-bytes (4, utf8mb4's, where none is given)
-  seq_in_index             behind that, of the table's primary key in information_schema.statistics: the place of
-                           the column in the key. Without it the key is the PRI columns in the order of the table
+--query prints a query of the tables of a MySQL schema. Its answer is read on standard input: a line for each column,
+with tabs between the table, the column, its type, its key, and two words that may be left out: the bytes of a text
+column, else its characters times those of --character-bytes (4, utf8mb4's, where none is given); and the place of the
+column in the primary key, else the key is the PRI columns in the order of the table.
 
 --skip NAME: the rows of this table are passed over; its columns aren't looked at. May be given more than once.
 
@@ -29,6 +27,13 @@ SAME = {
 }
 LONGEST = {"varchar": 65_535, "varbinary": 65_535, "char": 255, "binary": 255}
 UNKEYED = ("decimal", "text", "blob")
+QUERY = """select c.table_name, c.column_name, c.column_type, c.column_key, c.character_octet_length, s.seq_in_index
+from information_schema.columns c
+join information_schema.tables t on t.table_schema = c.table_schema and t.table_name = c.table_name
+    and t.table_type = 'BASE TABLE'
+left join information_schema.statistics s on s.table_schema = c.table_schema and s.table_name = c.table_name
+    and s.column_name = c.column_name and s.index_name = 'PRIMARY'
+where c.table_schema = '{}' order by c.table_name, c.ordinal_position;"""
 ESCAPES = {"\\t": "\t", "\\n": "\n", "\\0": "\0", "\\\\": "\\"}
 
 
@@ -116,10 +121,14 @@ def table_lines(name, columns, character_bytes):
 
 def main():
     words = argparse.ArgumentParser(description=__doc__, formatter_class=argparse.RawDescriptionHelpFormatter)
+    words.add_argument("--query", metavar="SCHEMA")
     words.add_argument("--table")
     words.add_argument("--skip", action="append", default=[])
     words.add_argument("--character-bytes", type=int, choices=(1, 2, 3, 4), default=4)
     given = words.parse_args()
+    if given.query is not None:
+        print(QUERY.format(given.query.replace("'", "''")))
+        return 0
     sys.stdin.reconfigure(encoding="utf-8", newline="\n")
     sys.stdout.reconfigure(encoding="utf-8")
     lines, faults = [], []
