@@ -13,7 +13,7 @@ import tempfile
 import time
 
 TOP = os.path.dirname(os.path.dirname(os.path.abspath(__file__)))
-CRATE = os.path.join(TOP, "crates", "vs_command")
+CRATE = os.path.join(TOP, "crates", "vstreamd")
 UUID = bytes(15) + b"\x01"
 # a request for c/0 behind no transaction
 REQUEST = bytes.fromhex("00000014 0a12 0a10 0a0163 120130 1a08") + b"MySQL56/"
@@ -44,7 +44,7 @@ def build():
     with tempfile.TemporaryDirectory() as empty:
         subprocess.run(["rt", "run", "--", "stream", empty], cwd=CRATE, input=b"",
                        stdout=subprocess.DEVNULL, stderr=subprocess.DEVNULL)
-    return os.path.join(CRATE, "out", "vs_command")
+    return os.path.join(CRATE, "out", "vstreamd")
 
 
 def run_once(program, folder, output):

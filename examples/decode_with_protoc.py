@@ -1,7 +1,7 @@
 #!/usr/bin/env python3
 """Reads a stream of vstreamd with the stock Protocol Buffers library, by its program protoc.
 
-Usage: examples/decode_with_protoc.py [STREAM]     (the two frames that the test of vs_command wants)
+Usage: examples/decode_with_protoc.py [STREAM]     (the two frames that the run of vstreamd wants)
 
 Each frame is decoded by proto/vstream.proto and printed, then encoded again by protoc: the bytes must be
 those of the frame. Where no protoc is on the path this says so, and nothing is read.
@@ -12,7 +12,7 @@ import subprocess
 import sys
 
 TOP = os.path.dirname(os.path.dirname(os.path.abspath(__file__)))
-STREAM = os.path.join(TOP, "crates", "vs_command", "stdout")
+STREAM = os.path.join(TOP, "crates", "vstreamd", "stdout")
 MESSAGE = "pulyandam.vstream.VStreamResponse"
 
 

@@ -12,4 +12,3 @@ pub mod RequestLemmas
 pub mod SaidLemmas
 pub mod DueLemmas
 pub mod StageLemmas
-pub mod OpeningLemmas

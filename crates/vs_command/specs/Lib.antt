@@ -9,5 +9,4 @@ pub mod Causes
 pub mod Stages
 pub mod Showing
 pub mod StatusTexts
-pub mod Openings
 pub mod Fetched

@@ -1,9 +1,9 @@
 ghost use Rattle.std.specs.Prelude.{◌≡◌, ◌++◌, ◌∷◌, [], IfOk, IfSome, OnErr, OnOk};
 
-use crate::host::FileFeed;
-use crate::host::listing::{end_of, names_in};
-use crate::host::openings::Openings;
-use crate::host::path::file_path;
+use crate::FileFeed;
+use crate::listing::{end_of, names_in};
+use crate::openings::Openings;
+use crate::path::file_path;
 use std::alloc::Global;
 use std::fs;
 use std::fs::File;
@@ -95,7 +95,7 @@ impl<R: Files<File = File> + Alloc + Clone + Drop> Tablets for FolderTablets<R> 
     ghost use Rattle.std.proofs.Common.{sym};
     ghost use Rattle.std.proofs.lemmas.Bool.{true≢false};
     ghost use Rattle.vs_outside.specs.Memory.{failures_of};
-    ghost use Rattle.vs_command.specs.Openings.{opened_names, read_faults_of};
+    ghost use Rattle.vs_host.specs.Openings.{opened_names, read_faults_of};
 
     type Feed = FileFeed;
 

@@ -1,29 +1,11 @@
 //! The program `vstreamd`: the change stream of a shard on standard output, and a recorded one as lines.
 #![tactic(auto)]
 
-mod connection;
-mod fetch;
-mod fetched;
-mod frame;
-mod host;
-mod options;
-mod plain;
-mod request;
-mod run;
-mod sending;
-mod start;
-mod status;
-mod streaming;
-#[cfg(test)]
-mod tests;
-
-use crate::host::{FolderTablets, HostClock, StdSink, StdSource};
-use crate::plain::run_plain;
-use crate::run::run;
-use crate::status::Status;
 use std::alloc::Global;
 use std::process::ExitCode;
 use std::{env, io};
+use vs_command::{Status, run, run_plain};
+use vs_host::{FolderTablets, HostClock, StdSink, StdSource};
 
 /// The words of the command line, behind the program's name.
 fn words_of<R: std::rt::Env + AllocGlobal>(rt: &R) -> io::Result<Vec<String>> {

@@ -3,7 +3,7 @@ use Rattle.std.specs.Prelude.{ℕ, List, map, find}
 use Rattle.std.specs.Option.{option_map_or}
 use Rattle.vs_base.specs.declared.shard_name.ShardName.{ShardName}
 use Rattle.vs_base.specs.Names.{same_name}
-use Rattle.vs_command.specs.declared.host.openings.Opening.{Opening}
+use Rattle.vs_host.specs.declared.openings.Opening.{Opening}
 
 abbrev pub opened_names : List Opening → List ShardName
 opened_names openings = map (λ o. o.name) openings

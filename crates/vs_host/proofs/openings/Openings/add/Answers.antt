@@ -1,6 +1,6 @@
 use Rattle.std.proofs.Common.{◌≡◌, Some, position, sym, ◌∙◌, refl}
-use Rattle.vs_command.proofs.OpeningLemmas.{is_of, count_of-add, count_of-other, opened_names-set, opened_has_place}
-use Rattle.vs_command.proofs.host.openings.Openings.add.Goals as goal
+use Rattle.vs_host.proofs.OpeningLemmas.{is_of, count_of-add, count_of-other, opened_names-set, opened_has_place}
+use Rattle.vs_host.proofs.openings.Openings.add.Goals as goal
 
 no_place : (c : goal.In_default) → ⊥
 no_place c = opened_has_place c.args.self.now.openings.items c.args.name.now c.requires (sym c.place_of.ensures ∙ c.in_default.is)

@@ -1,4 +1,6 @@
-//! The outside of the program: the system's clock, streams and folders.
+//! The outside of the program: the system's clock, its streams, and folders of logs. Each adapter
+//! keeps its trait and tells no content.
+#![tactic(auto)]
 
 mod clock;
 mod feed;

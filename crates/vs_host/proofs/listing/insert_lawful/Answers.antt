@@ -3,7 +3,7 @@ use Rattle.std.specs.Ordering.{nat_cmp}
 use Rattle.std.specs.Cmp.Lexicographic.{slice_cmp}
 use Rattle.std.proofs.lemmas.Map.Views.{All-insert_key}
 use Rattle.vs_outside.specs.Names.{is_shard_text}
-use Rattle.vs_command.proofs.host.listing.insert_lawful.Goals as goal
+use Rattle.vs_host.proofs.listing.insert_lawful.Goals as goal
 
 abbrev AreLawful : List (List ℕ) → Type 0
 AreLawful names = All (λ name. IsTrue (is_shard_text name)) names

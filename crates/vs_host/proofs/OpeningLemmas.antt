@@ -16,9 +16,9 @@ use Rattle.vs_base.proofs.NameLemmas.{same_name-refl, same_name-is}
 use Rattle.vs_outside.specs.Counts.{raised, Rose}
 use Rattle.vs_outside.specs.Memory.{failures_of}
 use Rattle.vs_outside.specs.Names.{StandsIn}
-use Rattle.vs_command.specs.Openings.{opened_names}
+use Rattle.vs_host.specs.Openings.{opened_names}
 use Rattle.vs_outside.proofs.PlaceLemmas.{position-first, position-None}
-use Rattle.vs_command.specs.declared.host.openings.Opening.{Opening}
+use Rattle.vs_host.specs.declared.openings.Opening.{Opening}
 
 abbrev pub is_of : ShardName → Opening → Bool
 is_of name o = same_name o.name name

@@ -6,7 +6,7 @@ ghost use Rattle.std.specs.Cmp.Lexicographic.{slice_cmp};
 ghost use Rattle.vs_outside.specs.Clusters.{IsListing};
 ghost use Rattle.vs_outside.specs.Names.{is_shard_text};
 
-use crate::host::path::folder_path;
+use crate::path::folder_path;
 use std::alloc::Global;
 use std::collections::BTreeSet;
 use std::io::ErrorKind;

@@ -2,7 +2,7 @@ ghost use Rattle.std.specs.Prelude.{◌≡◌, ◌++◌, ◌∷◌, [], OnErr, O
 ghost use Rattle.vs_base.specs.Names.{same_name};
 ghost use Rattle.vs_outside.specs.Counts.{KeepsCounts, KeepsOthers, raised};
 ghost use Rattle.vs_outside.specs.Names.{StandsIn};
-ghost use Rattle.vs_command.specs.Openings.{opened_names, read_faults_of};
+ghost use Rattle.vs_host.specs.Openings.{opened_names, read_faults_of};
 
 use std::alloc::Global;
 use vs_base::{OutOfMemory, ShardName};
