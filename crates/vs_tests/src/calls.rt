@@ -74,7 +74,8 @@ fn a_line_is_written_as_its_bytes(rt: HostRuntime) -> Result<(), AllocError> {
     };
     let mut output = MemSink::new(alloc, &[])?;
     assert!(rt; status.write_line(&mut output).is_ok());
-    assert_eq!(rt; output.sent(), b"bad log c/ at 9: table t\xff disagrees\n");
+    let line = b"bad log c/ at 9: table t\xff disagrees\n".as_slice();
+    assert_eq!(rt; output.sent(), line);
     Ok(())
 }
 

@@ -114,11 +114,7 @@ fn stream_words(alloc: Global) -> Result<Vec<String>, AllocError> {
 }
 
 /// Runs the cases of a stream.
-pub fn check<R: Wait + Abort>(
-    rt: &R,
-    alloc: Global,
-    cases: &[Case<'_>],
-) -> Result<(), AllocError> {
+pub fn check<R: Wait + Abort>(rt: &R, alloc: Global, cases: &[Case<'_>]) -> Result<(), AllocError> {
     let words = stream_words(alloc)?;
     for case in cases {
         check_words(rt, alloc, &words, case)?;
