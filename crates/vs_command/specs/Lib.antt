@@ -9,4 +9,5 @@ pub mod Causes
 pub mod Stages
 pub mod Showing
 pub mod StatusTexts
+pub mod Lines
 pub mod Fetched

@@ -2,23 +2,20 @@
 //! recorded one as lines.
 #![tactic(auto)]
 
-mod connection;
+pub mod connection;
 mod fetch;
 mod fetched;
 mod frame;
+mod line;
 mod options;
 mod plain;
 mod request;
-mod run;
+pub mod run;
 mod sending;
 mod start;
 mod status;
 mod streaming;
-#[cfg(test)]
-mod tests;
 
-pub use connection::connection;
 pub use options::Options;
 pub use plain::run_plain;
-pub use run::run;
 pub use status::{RequestFault, Status};

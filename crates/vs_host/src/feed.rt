@@ -1,9 +1,10 @@
+use crate::again::read_again;
 use std::fs::File;
-use std::io::Read;
 use vs_base::ShardName;
 use vs_outside::{Failed, Feed, Got};
 
-/// A log in a file, which is read once. It tells no bytes, and never has to wait.
+/// A log in a file, which is read once. It tells no bytes, and never has to wait. An interrupted read
+/// is no fault; one that would have to wait where the file does not block, as a pipe, is one.
 #[derive(Drop)]
 pub struct FileFeed {
     name: ShardName,
@@ -54,12 +55,12 @@ impl Feed for FileFeed {
     ghost no_faults = { λ f sound. absurd (true≢false (sym sound)) };
 
     fn read(&mut self, buf: &mut [u8]) -> Result<Got, Failed> {
-        match self.file.read(buf) {
+        match read_again(&mut self.file, buf) {
             Ok(0) if !buf.is_empty() => Ok(Got::End),
             Ok(n) => Ok(Got::Bytes(n)),
-            Err(_) => {
+            Err(failed) => {
                 self.faults = self.faults.saturating_add(1);
-                Err(Failed)
+                Err(failed)
             }
         }
     }

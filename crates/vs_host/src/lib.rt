@@ -2,6 +2,7 @@
 //! keeps its trait and tells no content.
 #![tactic(auto)]
 
+mod again;
 mod clock;
 mod feed;
 mod folder;

@@ -1,7 +1,8 @@
-use std::io::Read;
+use crate::again::{read_again, write_again};
 use vs_outside::{Failed, Sink, Source};
 
-/// Standard input. It tells no bytes.
+/// Standard input. It tells no bytes. An interrupted read is no fault; one that would have to wait
+/// where the descriptor does not block is one.
 #[derive(Drop)]
 pub struct StdSource<R: Input> {
     reader: R::Reader,
@@ -25,17 +26,17 @@ impl<R: Input> Source for StdSource<R> {
     ghost faults = { λ s. s.faults };
 
     fn read(&mut self, buf: &mut [u8]) -> Result<usize, Failed> {
-        match self.reader.read(buf) {
-            Ok(n) => Ok(n),
-            Err(_) => {
-                self.faults = self.faults.saturating_add(1);
-                Err(Failed)
-            }
+        let read = read_again(&mut self.reader, buf);
+        if read.is_err() {
+            self.faults = self.faults.saturating_add(1);
         }
+        read
     }
 }
 
-/// Standard output, without a buffer. It tells no bytes.
+/// Standard output, or what else the handle prints to as standard error, without a buffer. It tells
+/// no bytes. An interrupted write is no fault; one that would have to wait where the descriptor does
+/// not block is one.
 #[derive(Drop)]
 pub struct StdSink<R: Print + Drop> {
     rt: R,
@@ -56,12 +57,10 @@ impl<R: Print + Drop> Sink for StdSink<R> {
     ghost faults = { λ s. s.faults };
 
     fn write(&mut self, bytes: &[u8]) -> Result<usize, Failed> {
-        match self.rt.write_some(bytes) {
-            Ok(n) if n > 0 || bytes.is_empty() => Ok(n),
-            _ => {
-                self.faults = self.faults.saturating_add(1);
-                Err(Failed)
-            }
+        let written = write_again(&self.rt, bytes);
+        if written.is_err() {
+            self.faults = self.faults.saturating_add(1);
         }
+        written
     }
 }

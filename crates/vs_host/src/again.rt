@@ -1,0 +1,36 @@
+//! Reads and writes that a signal may interrupt.
+ghost use Rattle.std.specs.Prelude.{◌≤◌, ◌<◌, length, IfOk};
+
+use std::io::{ErrorKind, Read};
+use vs_outside::Failed;
+
+/// Reads, again after each interrupt. Every other refusal is a failure: also that of a descriptor
+/// that does not block and has nothing yet.
+pub fn read_again<R: Read>(reader: &mut R, buf: &mut [u8]) -> Result<usize, Failed>
+    ensures { IfOk result (λ n. n ≤ length buf.old) }
+{
+    for _ in 0..u64::MAX {
+        match reader.read(buf) {
+            Ok(n) => return Ok(n),
+            Err(error) if error.kind() == ErrorKind::Interrupted => {}
+            Err(_) => return Err(Failed),
+        }
+    }
+    Err(Failed)
+}
+
+/// Writes, again after each interrupt, and takes at least one byte of a piece that has one. Every
+/// other refusal is a failure: also that of a descriptor that does not block and has no room yet.
+pub fn write_again<R: Print>(rt: &R, bytes: &[u8]) -> Result<usize, Failed>
+    ensures fits { IfOk result (λ n. n ≤ length bytes.now) }
+    ensures some { IfOk result (λ n. 0 < length bytes.now → 0 < n) }
+{
+    for _ in 0..u64::MAX {
+        match rt.write_some(bytes) {
+            Ok(n) if n > 0 || bytes.is_empty() => return Ok(n),
+            Err(error) if error.kind() == ErrorKind::Interrupted => {}
+            _ => return Err(Failed),
+        }
+    }
+    Err(Failed)
+}
