@@ -1,5 +1,6 @@
 pub mod ToldLemmas
 pub mod CountLemmas
+pub mod FeedLemmas
 pub mod TimeLemmas
 pub mod MemoryLemmas
 pub mod OpeningLemmas

@@ -1,18 +1,17 @@
 -- What tablets in memory hold, before and after a call.
-use Rattle.std.proofs.Common.{◌≡◌, ℕ, ◌+◌, ◌++◌, add-zero, arith, Bool, true, false, ◌&&◌, not, cond, List, [], ◌∷◌, get_or, position, Some, None, sym, ap, ◌∙◌, arith}
+use Rattle.std.proofs.Common.{◌≡◌, ℕ, ◌+◌, ◌++◌, arith, Bool, true, false, ◌&&◌, not, List, [], ◌∷◌, get_or, position, Some, None, sym, ap, ◌∙◌}
 use Rattle.std.proofs.Math.ListN.{set}
 use Rattle.std.proofs.Math.Seq.{map-set_same}
 use Rattle.std.specs.List.{list_all}
 use Rattle.std.specs.Option.{option_map}
 use Rattle.std.proofs.lemmas.Bool.{true≢false, and_parts}
 use Rattle.std.proofs.lemmas.List.Folds.{list_all-append}
-use Rattle.std.proofs.lemmas.List.Sums.{sum_by-append, sum_by-cons}
 use Rattle.vs_base.specs.declared.shard_name.ShardName.{ShardName}
 use Rattle.vs_base.specs.Names.{same_name}
-use Rattle.vs_base.proofs.NameLemmas.{same_name-refl}
 use Rattle.vs_outside.specs.Counts.{Rose}
 use Rattle.vs_outside.specs.Clusters.{find_shard}
 use Rattle.vs_outside.specs.Memory.{cluster_of, shard_of, holds_no_failure, is_quiet, failures_of}
+use Rattle.vs_outside.proofs.FeedLemmas.{times-again}
 use Rattle.vs_outside.proofs.PlaceLemmas.{find-map, find-place, find-no_place, position-None, list_all-set}
 use Rattle.vs_outside.specs.declared.mem_shard.Held.{Held}
 
@@ -63,14 +62,7 @@ quiet_before held held' fetches fetches' lists lists' from_held from_fetches fro
     ap (λ b. b && (list_all not fetches && list_all not lists)) (from_held parts.0) ∙ ap (λ b. b && list_all not lists) (from_fetches scripts.0) ∙ from_lists scripts.1
 
 -- a name that failed once more
-pub failures_of-push : (failed : List ShardName) (name n : ShardName) → failures_of (failed ++ name ∷ []) n ≡ failures_of failed n + cond (same_name name n) 1 0
-failures_of-push failed name n =
-    let more : failures_of (failed ++ name ∷ []) n ≡ failures_of failed n + failures_of (name ∷ []) n = sum_by-append (λ m. cond (same_name m n) 1 0) failed (name ∷ []) in
-    more ∙ ap (λ k. failures_of failed n + k) (sum_by-cons (λ m. cond (same_name m n) 1 0) name [] ∙ add-zero (cond (same_name name n) 1 0))
-
 pub failures_of-rose : (failed now : List ShardName) (name : ShardName) → now ≡ failed ++ name ∷ [] → Rose (failures_of failed name) (failures_of now name)
 failures_of-rose failed now name is =
-    let more : failures_of now name ≡ failures_of failed name + 1 =
-    ap (λ l. failures_of l name) is ∙ failures_of-push failed name name ∙ ap (λ b. failures_of failed name + cond b 1 0) (same_name-refl name)
-    in
+    let more : failures_of now name ≡ failures_of failed name + 1 = ap (λ l. failures_of l name) is ∙ times-again failed name in
     omega arith

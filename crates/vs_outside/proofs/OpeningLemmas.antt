@@ -1,85 +1,145 @@
 -- The counts of names, before and after a call of the openings.
-use Rattle.std.proofs.Common.{◌≡◌, ℕ, ◌+◌, ◌≤◌, Bool, true, false, cond, List, [], ◌∷◌, ◌++◌, length, get_or, position, find, Option, Some, None, refl, sym, ap, ◌∙◌, ⊎_elim, arith}
+use Rattle.std.proofs.Common.{◌≡◌, ℕ, suc, ◌+◌, ◌-◌, ◌^◌, min, ◌<◌, ◌≤◌, Bool, true, false, not, ◌&&◌, cond, List, [], ◌∷◌, ◌++◌, length, get_or, position, Some, None, refl, sym, ap, ◌∙◌, arith}
 use Rattle.std.proofs.Math.ListN.{set}
-use Rattle.std.proofs.Math.Seq.{map-set_same, get_or-append_seam}
-use Rattle.std.specs.Option.{option_map_or, option_or}
+use Rattle.std.proofs.Math.Seq.{map-set_same}
 use Rattle.std.specs.List.{position_or_len}
-use Rattle.std.proofs.Math.ListN.{get_or-map}
-use Rattle.std.proofs.lemmas.Bool.{true≢false, cases_lt}
-use Rattle.std.proofs.lemmas.List.{length-map, length-append, set-get_or}
-use Rattle.std.proofs.lemmas.List.Folds.{find-set, find_past, find-append}
+use Rattle.std.proofs.lemmas.Bool.{and_parts}
+use Rattle.std.proofs.lemmas.List.{map-append}
 use Rattle.std.proofs.lemmas.List.Quantifiers.{position-Some}
-use Rattle.std.proofs.lemmas.List.Sums.{fails_before_first}
+use Rattle.std.proofs.lemmas.List.Sums.{sum_by-append, sum_by-cons, sum_by-set}
 use Rattle.vs_base.specs.declared.shard_name.ShardName.{ShardName}
 use Rattle.vs_base.specs.Names.{same_name}
-use Rattle.vs_base.proofs.NameLemmas.{same_name-refl, same_name-is}
-use Rattle.vs_outside.specs.Counts.{raised, KeepsOthers}
-use Rattle.vs_outside.specs.Names.{StandsIn}
-use Rattle.vs_outside.specs.Openings.{opened_names}
-use Rattle.vs_outside.proofs.PlaceLemmas.{position-first, position-None}
-use Rattle.vs_outside.specs.declared.mem_opening.Opening.{Opening}
+use Rattle.vs_base.proofs.NameLemmas.{same_name-is}
+use Rattle.vs_outside.specs.Counts.{raised, KeepsCounts, KeepsOthers}
+use Rattle.vs_outside.specs.Feeds.{times}
+use Rattle.vs_outside.specs.Openings.{opened_names, returned_of, sum_of}
+use Rattle.vs_outside.proofs.FeedLemmas.{times-again}
+use Rattle.vs_outside.proofs.PlaceLemmas.{position-None}
+use Rattle.vs_outside.specs.declared.openings.Opening.{Opening}
 
-abbrev pub is_of : ShardName → Opening → Bool
-is_of name o = same_name o.name name
+-- an opening of the name whose feed is out
+abbrev pub is_out : ShardName → Opening → Bool
+is_out name o = same_name o.name name && not o.returned
 
--- a count of the first opening of the name
-abbrev pub count_of : (Opening → ℕ) → List Opening → ShardName → ℕ
-count_of f openings name = option_map_or f (find (is_of name) openings) 0
+-- what an opening adds to the sum of a name
+abbrev part : (Opening → ℕ) → ShardName → Opening → ℕ
+part f name o = cond (same_name o.name name && o.returned) (f o) 0
 
--- the opening at the name's first place is changed, and keeps its name
+part-of : (f : Opening → ℕ) (name : ShardName) (o : Opening) (a b : Bool) → same_name o.name name ≡ a → o.returned ≡ b → part f name o ≡ cond (a && b) (f o) 0
+part-of f name o a b p q = ap (λ s. cond (s && o.returned) (f o) 0) p ∙ ap (λ r. cond (a && r) (f o) 0) q
+
+-- no more feeds of a name were given back than its log was opened
+pub returned_within : (openings : List Opening) (name : ShardName) → returned_of openings name ≤ times name (opened_names openings)
+returned_within [] name = omega arith
+returned_within (o ∷ os) name =
+    let first : cond (same_name o.name name && o.returned) 1 0 ≤ cond (same_name o.name name) 1 0 = one (same_name o.name name) o.returned in
+    let rest = returned_within os name in
+    let given = sum_by-cons (part (λ _. 1) name) o os in
+    let opened = sum_by-cons (λ n. cond (same_name n name) 1 0) o.name (opened_names os) in
+    omega arith
+  where
+    one : (a b : Bool) → cond (a && b) 1 0 ≤ cond a 1 0
+    one true true = omega arith
+    one true false = omega arith
+    one false b = omega arith
+
+-- a count that stops is raised as its sum is
+raised-sum : (before now more : ℕ) → now ≡ before + more → min now (2 ^ 64 - 1) ≡ raised more (min before (2 ^ 64 - 1))
+raised-sum before now more is = omega arith
+
+was_out : (b : Bool) → not b ≡ true → b ≡ false
+was_out true e = cc
+was_out false e = refl
+
+-- the feed of the first opening of the name that is out is given back
 module _ (openings : List Opening) (name : ShardName) (place : ℕ) (held changed : Opening)
-    (at : position (is_of name) openings ≡ Some place) (is : held ≡ get_or openings place held) (kept : changed.name ≡ held.name) where
-  is_name : held.name ≡ name
-  is_name = ap (λ o. o.name) is ∙ same_name-is (get_or openings place held).name name (position-Some (is_of name) openings place held at).1
+    (at : position (is_out name) openings ≡ Some place) (is : held ≡ get_or openings place held) (kept : changed.name ≡ held.name) (given : changed.returned ≡ true) where
+  held_out : (same_name held.name name ≡ true) × (held.returned ≡ false)
+  held_out =
+      let parts = and_parts _ _ (ap (is_out name) is ∙ (position-Some (is_out name) openings place held at).1) in
+      (parts.0, was_out held.returned parts.1)
 
-  first : (f : Opening → ℕ) (o : Opening) → o.name ≡ held.name → count_of f (set openings place o) name ≡ f o
-  first f o same =
-      let inside = (position-Some (is_of name) openings place held at).0 in
-      let passes : same_name o.name name ≡ true = ap (λ n. same_name n name) (same ∙ is_name) ∙ same_name-refl name in
-      ap (λ r. option_map_or f r 0) (find-set (is_of name) openings place o (position-first (is_of name) openings place at) inside passes)
+  sums : (f : Opening → ℕ) (n : ShardName) → sum_of f (set openings place changed) n + part f n held ≡ sum_of f openings n + part f n changed
+  sums f n =
+      ap (λ o. sum_of f (set openings place changed) n + part f n o) is
+      ∙ sum_by-set (part f n) openings place changed held (position-Some (is_out name) openings place held at).0
 
-  pub count_of-add : (f : Opening → ℕ) (n : ℕ) → f changed ≡ raised n (f held) → count_of f (set openings place changed) name ≡ raised n (count_of f openings name)
-  count_of-add f n more =
-      let before : count_of f openings name ≡ f held =
-      ap (λ l. count_of f l name) (sym (ap (set openings place) is ∙ set-get_or openings place held)) ∙ first f held refl
-      in
-      first f changed kept ∙ more ∙ ap (raised n) (sym before)
+  pub sum_of-given : (f : Opening → ℕ) → sum_of f (set openings place changed) name ≡ sum_of f openings name + f changed
+  sum_of-given f =
+      let before : part f name held ≡ 0 = part-of f name held true false held_out.0 held_out.1 in
+      let after : part f name changed ≡ f changed = part-of f name changed true true (ap (λ m. same_name m name) kept ∙ held_out.0) given in
+      let both = sums f name in
+      omega arith
 
-  pub count_of-other : (f : Opening → ℕ) (n : ShardName) → same_name name n ≡ false → count_of f (set openings place changed) n ≡ count_of f openings n
-  count_of-other f n other =
-      let differs : same_name held.name n ≡ false = ap (λ m. same_name m n) is_name ∙ other in
-      let fails : same_name (get_or openings place held).name n ≡ false = ap (λ o. same_name o.name n) (sym is) ∙ differs in
-      ap (λ o. option_map_or f o 0) (find_past (is_of n) openings place changed held fails (ap (λ m. same_name m n) kept ∙ differs))
+  pub sum_of-other : (f : Opening → ℕ) (n : ShardName) → same_name name n ≡ false → sum_of f (set openings place changed) n ≡ sum_of f openings n
+  sum_of-other f n other =
+      let differs : same_name held.name n ≡ false = ap (λ m. same_name m n) (same_name-is held.name name held_out.0) ∙ other in
+      let before : part f n held ≡ 0 = part-of f n held false held.returned differs refl in
+      let after : part f n changed ≡ 0 = part-of f n changed false changed.returned (ap (λ m. same_name m n) kept ∙ differs) refl in
+      let both = sums f n in
+      omega arith
+
+  pub count_of-given : (f : Opening → ℕ) → min (sum_of f (set openings place changed) name) (2 ^ 64 - 1) ≡ raised (f changed) (min (sum_of f openings name) (2 ^ 64 - 1))
+  count_of-given f = raised-sum (sum_of f openings name) _ (f changed) (sum_of-given f)
+
+  pub count_of-other : (f : Opening → ℕ) (n : ShardName) → same_name name n ≡ false →
+      min (sum_of f (set openings place changed) n) (2 ^ 64 - 1) ≡ min (sum_of f openings n) (2 ^ 64 - 1)
+  count_of-other f n other = ap (λ s. min s (2 ^ 64 - 1)) (sum_of-other f n other)
 
   pub opened_names-set : opened_names (set openings place changed) ≡ opened_names openings
   opened_names-set = map-set_same (λ o. o.name) openings place changed held (kept ∙ ap (λ o. o.name) is)
 
--- an opened name has a place
-pub opened_has_place : (openings : List Opening) (name : ShardName) → StandsIn name (opened_names openings) → position (is_of name) openings ≡ None → ⊥
-opened_has_place openings name (before, after, is) none =
-    let d : Opening = record { name = name; faults = 0; waits = 0 } in
-    let at = length before in
-    let long : length openings ≡ length before + length (name ∷ after) =
-    sym (length-map openings (λ o. o.name)) ∙ ap length is ∙ length-append before (name ∷ after)
-    in
-    let there : (get_or openings at d).name ≡ name =
-    sym (get_or-map (λ o. o.name) openings at d) ∙ ap (λ l. get_or l at name) is ∙ get_or-append_seam before name after name
-    in
-    let passes : same_name (get_or openings at d).name name ≡ true = ap (λ n. same_name n name) there ∙ same_name-refl name in
-    let past : length openings ≤ position_or_len (is_of name) openings =
-    ⊎_elim (λ inside. absurd (position-None (is_of name) openings none inside)) (λ h. h) (cases_lt (position_or_len (is_of name) openings) (length openings))
-    in
-    true≢false (sym passes ∙ fails_before_first (is_of name) openings at d (omega arith))
+  pub within-given : (n : ShardName) → returned_of (set openings place changed) n ≤ times n (opened_names (set openings place changed))
+  within-given = returned_within (set openings place changed)
 
--- an opening without counts at the end
-pub count_of-push : (f : Opening → ℕ) (openings : List Opening) (new : Opening) → f new ≡ 0 → (n : ShardName) → count_of f (openings ++ new ∷ []) n ≡ count_of f openings n
-count_of-push f openings new none n =
-    ap (λ o. option_map_or f o 0) (find-append (is_of n) openings (new ∷ [])) ∙ go (find (is_of n) openings) (is_of n new)
+abbrev one_if : Bool → ℕ
+one_if b = cond b 1 0
+
+-- where no feed of the name is out, each was given back
+pub all_given : (openings : List Opening) (name : ShardName) → position (is_out name) openings ≡ None → returned_of openings name ≡ times name (opened_names openings)
+all_given openings name none = go openings (position-None (is_out name) openings none)
   where
-    go : (o : Option Opening) (b : Bool) → option_map_or f (option_or o (cond b (Some new) None)) 0 ≡ option_map_or f o 0
-    go (Some o) b = refl
-    go None true = none
-    go None false = refl
+    is_given : (a b : Bool) (at many : ℕ) → (cond (not (a && not b)) (1 + at) 0 < suc many → ⊥) → one_if (a && b) ≡ one_if a
+    is_given true true at many outside = refl
+    is_given true false at many outside = absurd (outside (omega arith))
+    is_given false b at many outside = refl
+
+    outside_rest : (a b : Bool) (at many : ℕ) → (cond (not (a && not b)) (1 + at) 0 < suc many → ⊥) → at < many → ⊥
+    outside_rest true true at many outside lt = outside (omega arith)
+    outside_rest true false at many outside lt = outside (omega arith)
+    outside_rest false b at many outside lt = outside (omega arith)
+
+    go : (os : List Opening) → (position_or_len (is_out name) os < length os → ⊥) → returned_of os name ≡ times name (opened_names os)
+    go [] outside = refl
+    go (o ∷ os) outside =
+        let at = position_or_len (is_out name) os in
+        let first : one_if (same_name o.name name && o.returned) ≡ one_if (same_name o.name name) = is_given _ _ at (length os) outside in
+        let rest = go os (outside_rest (same_name o.name name) o.returned at (length os) outside) in
+        let given = sum_by-cons (part (λ _. 1) name) o os in
+        let opened = sum_by-cons (λ n. cond (same_name n name) 1 0) o.name (opened_names os) in
+        omega arith
+
+-- an opening at the end, whose feed is out
+pub sum_of-push : (f : Opening → ℕ) (openings : List Opening) (new : Opening) → new.returned ≡ false → KeepsCounts (sum_of f openings) (sum_of f (openings ++ new ∷ []))
+sum_of-push f openings new out n =
+    let joined = sum_by-append (part f n) openings (new ∷ []) in
+    let last = sum_by-cons (part f n) new [] in
+    let none : part f n new ≡ 0 = part-of f n new (same_name new.name n) false refl out ∙ no_part (same_name new.name n) in
+    omega arith
+  where
+    no_part : (a : Bool) → cond (a && false) (f new) 0 ≡ 0
+    no_part true = refl
+    no_part false = refl
+
+pub pushed_is_out : (openings : List Opening) (new : Opening) (name : ShardName) → new.returned ≡ false → new.name ≡ name →
+    returned_of (openings ++ new ∷ []) name < times name (opened_names (openings ++ new ∷ []))
+pushed_is_out openings new name out is =
+    let kept = sum_of-push (λ _. 1) openings new out name in
+    let within = returned_within openings name in
+    let more : times name (opened_names (openings ++ new ∷ [])) ≡ times name (opened_names openings) + 1 =
+    ap (times name) (map-append (λ o. o.name) openings (new ∷ []) ∙ ap (λ m. opened_names openings ++ m ∷ []) is) ∙ times-again (opened_names openings) name
+    in
+    omega arith
 
 -- where no fault comes and there was none, there is none
 pub no_faults-add : (before now : ShardName → ℕ) (name : ShardName) (more : ℕ) → more ≡ 0 → now name ≡ raised more (before name) → KeepsOthers name before now →

@@ -1,4 +1,5 @@
 pub mod Counts
+pub mod Feeds
 pub mod Told
 pub mod Names
 pub mod Clusters

@@ -1,14 +1,14 @@
 -- The meanings of tablets in memory, by what they hold.
-use Rattle.std.specs.Prelude.{◌≡◌, ℕ, Bool, ◌&&◌, not, List, map, count_by}
+use Rattle.std.specs.Prelude.{◌≡◌, ℕ, Bool, ◌&&◌, not, List, map}
 use Rattle.std.specs.List.{list_all}
 use Rattle.std.proofs.Common.{sym, subst, lit<}
 use Rattle.vs_base.specs.declared.shard_name.ShardName.{ShardName}
-use Rattle.vs_base.specs.Names.{same_name}
 use Rattle.vs_outside.specs.Clusters.{Shard, ClusterBytes}
 use Rattle.vs_outside.specs.Counts.{IsBelowLast}
+use Rattle.vs_outside.specs.Feeds.{times}
 use Rattle.vs_outside.specs.Openings.{faults_of}
 use Rattle.vs_outside.specs.Scripts.{has_no_failure}
-use Rattle.vs_outside.specs.declared.mem_opening.Opening.{Opening}
+use Rattle.vs_outside.specs.declared.openings.Opening.{Opening}
 use Rattle.vs_outside.specs.declared.mem_shard.Held.{Held}
 
 abbrev pub shard_of : Held → Shard
@@ -27,7 +27,7 @@ is_quiet held fetches lists = list_all holds_no_failure held && (list_all not fe
 
 -- how often the name stands among those whose fetch failed
 abbrev pub failures_of : List ShardName → ShardName → ℕ
-failures_of failed name = count_by (λ n. same_name n name) failed
+failures_of failed name = times name failed
 
 -- each count of faults is 0
 abbrev pub HaveNoFaults : List Opening → List ShardName → ℕ → Type 0

@@ -1,8 +1,7 @@
--- Which texts may name a keyspace and a shard, and where a name stands among others.
-use Rattle.std.specs.Prelude.{◌≡◌, ℕ, Bool, ◌&&◌, ◌||◌, not, nat_le, nat_eq, List, [], ◌∷◌, ◌++◌, length}
+-- Which texts may name a keyspace and a shard.
+use Rattle.std.specs.Prelude.{ℕ, Bool, ◌&&◌, ◌||◌, not, nat_le, nat_eq, List, [], ◌∷◌, length}
 use Rattle.std.specs.List.{list_all}
 use Rattle.std.specs.Cmp.Lexicographic.{pointwise}
-use Rattle.vs_base.specs.declared.shard_name.ShardName.{ShardName}
 
 -- an ASCII letter or digit, '-' or '_'
 abbrev pub is_name_byte : ℕ → Bool
@@ -27,7 +26,3 @@ is_dots text = pointwise nat_eq text (46 ∷ []) || pointwise nat_eq text (46 �
 -- the text may name a shard, and isn't empty
 abbrev pub is_shard_text : List ℕ → Bool
 is_shard_text text = not (is_dots text) && (has_name_length text && list_all is_shard_byte text)
-
--- the name is one of the names
-abbrev pub StandsIn : ShardName → List ShardName → Type 0
-StandsIn name names = (before after : List ShardName) × (names ≡ before ++ name ∷ after)

@@ -11,8 +11,9 @@ pub enum Got {
     End,
 }
 
-/// The log of a shard, as it is read from its front.
-pub trait Feed {
+/// The log of a shard, as it is read from its front. That each feed is given back is what
+/// `Tablets::returned` counts.
+pub trait Feed: Drop {
     ghost use Rattle.std.specs.Prelude.{
       ◌≡◌,
       ◌≤◌,

@@ -4,15 +4,16 @@
 
 mod clock;
 mod feed;
+mod laws;
 mod mem_clock;
 mod mem_feed;
-mod mem_opening;
 mod mem_shard;
 mod mem_shards;
 mod mem_sink;
 mod mem_source;
 mod mem_tablets;
 mod names;
+mod openings;
 mod scripted;
 mod sink;
 mod source;
@@ -23,12 +24,14 @@ mod writing;
 
 pub use clock::Clock;
 pub use feed::{Feed, Got};
+pub use laws::law_feeds;
 pub use mem_clock::MemClock;
 pub use mem_feed::{FeedAnswer, MemFeed};
 pub use mem_sink::{MemSink, SinkAnswer};
 pub use mem_source::MemSource;
 pub use mem_tablets::MemTablets;
 pub use names::{names_keyspace, names_shard};
+pub use openings::{Opening, Openings};
 pub use sink::Sink;
 pub use source::{Failed, Source};
 pub use tablets::{AskEnd, Opened, Tablets};

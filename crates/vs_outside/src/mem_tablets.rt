@@ -1,11 +1,10 @@
 ghost use Rattle.std.specs.Prelude.{◌≡◌, true};
 ghost use Rattle.vs_outside.specs.Memory.{HaveNoFaults, is_quiet};
 
-use crate::mem_opening::Openings;
 use crate::mem_shard::Held;
 use crate::mem_shards::{advance, names_of, open_held};
 use crate::scripted::{fails_at, push_copy};
-use crate::{AskEnd, FeedAnswer, MemFeed, Opened, Tablets};
+use crate::{AskEnd, FeedAnswer, MemFeed, Opened, Openings, Tablets};
 use std::alloc::Global;
 use vs_base::{OutOfMemory, ShardName, Text};
 
@@ -13,6 +12,7 @@ use vs_base::{OutOfMemory, ShardName, Text};
 #[derive(Drop)]
 pub struct MemTablets {
     alloc: Global,
+    folder: String,
     held: Vec<Held>,
     openings: Openings,
     /// The names whose fetch failed, each as often as it did.
@@ -50,14 +50,17 @@ impl MemTablets {
     pub fn new(alloc: Global) -> Result<MemTablets, OutOfMemory>
         ensures cluster { IfOk result (λ t. ⟦<MemTablets as Tablets>⟧.cluster t ≡ Some []) }
         ensures opened { IfOk result (λ t. ⟦<MemTablets as Tablets>⟧.opened t ≡ []) }
+        ensures returned { IfOk result (λ t. (n : ShardName) → ⟦<MemTablets as Tablets>⟧.returned t n ≡ 0) }
         ensures faults { IfOk result (λ t. (n : ShardName) → ⟦<MemTablets as Tablets>⟧.faults t n ≡ 0) }
         ensures waits { IfOk result (λ t. (n : ShardName) → ⟦<MemTablets as Tablets>⟧.waits t n ≡ 0) }
         ensures open_faults { IfOk result (λ t. (n : ShardName) → ⟦<MemTablets as Tablets>⟧.open_faults t n ≡ 0) }
         ensures list_faults { IfOk result (λ t. ⟦<MemTablets as Tablets>⟧.list_faults t ≡ 0) }
+        ensures folder { IfOk result (λ t. ⟦<MemTablets as Tablets>⟧.folder t ≡ []) }
         ensures sound { IfOk result (λ t. ⟦<MemTablets as Tablets>⟧.sound t ≡ true) }
     {
         Ok(MemTablets {
             alloc,
+            folder: String::new(alloc),
             held: Vec::new(alloc),
             openings: Openings::new(alloc),
             failed: Vec::new(alloc),
@@ -84,10 +87,12 @@ impl MemTablets {
         ensures sound { OnOk result (⟦<MemTablets as Tablets>⟧.sound self.new ≡ (list_all (λ s. has_no_failure s.items) scripts.items && ⟦<MemTablets as Tablets>⟧.sound self.old)) }
         ensures err { OnErr result ((⟦<MemTablets as Tablets>⟧.cluster self.new ≡ ⟦<MemTablets as Tablets>⟧.cluster self.old) × (⟦<MemTablets as Tablets>⟧.sound self.new ≡ ⟦<MemTablets as Tablets>⟧.sound self.old)) }
         ensures opened { ⟦<MemTablets as Tablets>⟧.opened self.new ≡ ⟦<MemTablets as Tablets>⟧.opened self.old }
+        ensures returned { KeepsCounts (⟦<MemTablets as Tablets>⟧.returned self.old) (⟦<MemTablets as Tablets>⟧.returned self.new) }
         ensures faults { KeepsCounts (⟦<MemTablets as Tablets>⟧.faults self.old) (⟦<MemTablets as Tablets>⟧.faults self.new) }
         ensures waits { KeepsCounts (⟦<MemTablets as Tablets>⟧.waits self.old) (⟦<MemTablets as Tablets>⟧.waits self.new) }
         ensures open_faults { KeepsCounts (⟦<MemTablets as Tablets>⟧.open_faults self.old) (⟦<MemTablets as Tablets>⟧.open_faults self.new) }
         ensures list_faults { ⟦<MemTablets as Tablets>⟧.list_faults self.new ≡ ⟦<MemTablets as Tablets>⟧.list_faults self.old }
+        ensures folder { ⟦<MemTablets as Tablets>⟧.folder self.new ≡ ⟦<MemTablets as Tablets>⟧.folder self.old }
     {
         let alloc = self.alloc;
         let held = Held {
@@ -113,10 +118,12 @@ impl MemTablets {
         ensures err { OnErr result (⟦<MemTablets as Tablets>⟧.sound self.new ≡ ⟦<MemTablets as Tablets>⟧.sound self.old) }
         ensures cluster { ⟦<MemTablets as Tablets>⟧.cluster self.new ≡ ⟦<MemTablets as Tablets>⟧.cluster self.old }
         ensures opened { ⟦<MemTablets as Tablets>⟧.opened self.new ≡ ⟦<MemTablets as Tablets>⟧.opened self.old }
+        ensures returned { KeepsCounts (⟦<MemTablets as Tablets>⟧.returned self.old) (⟦<MemTablets as Tablets>⟧.returned self.new) }
         ensures faults { KeepsCounts (⟦<MemTablets as Tablets>⟧.faults self.old) (⟦<MemTablets as Tablets>⟧.faults self.new) }
         ensures waits { KeepsCounts (⟦<MemTablets as Tablets>⟧.waits self.old) (⟦<MemTablets as Tablets>⟧.waits self.new) }
         ensures open_faults { KeepsCounts (⟦<MemTablets as Tablets>⟧.open_faults self.old) (⟦<MemTablets as Tablets>⟧.open_faults self.new) }
         ensures list_faults { ⟦<MemTablets as Tablets>⟧.list_faults self.new ≡ ⟦<MemTablets as Tablets>⟧.list_faults self.old }
+        ensures folder { ⟦<MemTablets as Tablets>⟧.folder self.new ≡ ⟦<MemTablets as Tablets>⟧.folder self.old }
     {
         let before = self.fetches.len();
         self.fetches.extend_from_slice(fetches)?;
@@ -129,15 +136,17 @@ impl MemTablets {
 }
 
 impl Tablets for MemTablets {
-    ghost use Rattle.std.specs.Prelude.{Some};
+    ghost use Rattle.std.specs.Prelude.{Some, string_bytes};
     ghost use Rattle.vs_outside.specs.Memory.{cluster_of, counts_below_last, failures_of};
-    ghost use Rattle.vs_outside.specs.Openings.{faults_of, opened_names, waits_of};
+    ghost use Rattle.vs_outside.specs.Openings.{faults_of, opened_names, returned_of, waits_of};
 
     type Feed = MemFeed;
 
     ghost cluster = { λ t. Some (cluster_of t.held.items) };
 
     ghost opened = { λ t. opened_names t.openings.openings.items };
+
+    ghost returned = { λ t. returned_of t.openings.openings.items };
 
     ghost faults = { λ t. faults_of t.openings.openings.items };
 
@@ -147,11 +156,16 @@ impl Tablets for MemTablets {
 
     ghost list_faults = { λ t. t.list_faults };
 
+    ghost folder = { λ t. string_bytes t.folder };
+
     ghost sound = { λ t. is_quiet t.held.items t.fetches.items t.lists.items };
 
     ghost below_last = { λ t sound. counts_below_last t.openings.openings.items t.failed.items t.list_faults (t.quiet sound) };
 
-    fn point(&mut self, _alloc: Global, _folder: &str) -> Result<(), OutOfMemory> {
+    ghost within = { λ t. t.openings.within };
+
+    fn point(&mut self, alloc: Global, path: &str) -> Result<(), OutOfMemory> {
+        self.folder = String::from_str(alloc, path)?;
         Ok(())
     }
 

@@ -36,6 +36,8 @@ pub trait Tablets {
     ghost use Rattle.std.specs.Prelude.{
       ◌≡◌,
       ◌≤◌,
+      ◌<◌,
+      ◌+◌,
       ℕ,
       Bool,
       List,
@@ -71,7 +73,7 @@ pub trait Tablets {
       Rose,
       raised,
     };
-    ghost use Rattle.vs_outside.specs.Names.{StandsIn};
+    ghost use Rattle.vs_outside.specs.Feeds.{times};
 
     type Feed: Feed + Send + 'static;
 
@@ -80,6 +82,9 @@ pub trait Tablets {
 
     /// The names whose logs were opened, oldest first.
     ghost opened: { Self → List ShardName };
+
+    /// How often a feed of a name was given back.
+    ghost returned: { Self → ShardName → ℕ };
 
     /// How many reads failed of a name's feeds that were given back.
     ghost faults: { Self → ShardName → ℕ };
@@ -93,13 +98,18 @@ pub trait Tablets {
     /// How many listings failed.
     ghost list_faults: { Self → ℕ };
 
+    /// The folder that was named last.
+    ghost folder: { Self → List ℕ };
+
     /// Whether no call, and no read of a feed, can fail but for want of memory.
     ghost sound: { Self → Bool };
 
     /// Names the folder that holds the logs. A told cluster stays.
-    fn point(&mut self, alloc: Global, folder: &str) -> Result<(), OutOfMemory>
+    fn point(&mut self, alloc: Global, path: &str) -> Result<(), OutOfMemory>
+        ensures folder { MatchResult result (λ _. folder self.new ≡ path.now) (λ _. folder self.new ≡ folder self.old) }
         ensures cluster { cluster self.new ≡ cluster self.old }
         ensures opened { opened self.new ≡ opened self.old }
+        ensures returned { KeepsCounts (returned self.old) (returned self.new) }
         ensures faults { KeepsCounts (faults self.old) (faults self.new) }
         ensures waits { KeepsCounts (waits self.old) (waits self.new) }
         ensures open_faults { KeepsCounts (open_faults self.old) (open_faults self.new) }
@@ -115,9 +125,11 @@ pub trait Tablets {
         ensures steady { IsTrue (sound self.old) → list_faults self.new ≡ list_faults self.old }
         ensures cluster { cluster self.new ≡ cluster self.old }
         ensures opened { opened self.new ≡ opened self.old }
+        ensures returned { KeepsCounts (returned self.old) (returned self.new) }
         ensures faults { KeepsCounts (faults self.old) (faults self.new) }
         ensures waits { KeepsCounts (waits self.old) (waits self.new) }
         ensures open_faults { KeepsCounts (open_faults self.old) (open_faults self.new) }
+        ensures folder { folder self.new ≡ folder self.old }
         ensures sound { sound self.new ≡ sound self.old };
 
     /// Opens the log of a shard at its front; or none where the cluster lacks the shard.
@@ -131,32 +143,42 @@ pub trait Tablets {
         ensures origin { IfOk result (λ o. IfSome o (λ o. Self.Feed.origin o.feed ≡ name.now)) }
         ensures fresh { IfOk result (λ o. IfSome o (λ o. (Self.Feed.faults o.feed ≡ 0) × (Self.Feed.waits o.feed ≡ 0))) }
         ensures sound_feed { IfOk result (λ o. IfSome o (λ o. IsTrue (sound self.old) → IsTrue (Self.Feed.sound o.feed))) }
+        ensures lent { IfOk result (λ o. IfSome o (λ _. returned self.new name.now < times name.now (opened self.new))) }
         ensures opened { MatchResult result (λ o. MatchOption o (opened self.new ≡ opened self.old) (λ _. opened self.new ≡ opened self.old ++ name.now ∷ [])) (λ _. opened self.new ≡ opened self.old) }
         ensures later { NoneFell (open_faults self.old) (open_faults self.new) }
         ensures others { KeepsOthers name.now (open_faults self.old) (open_faults self.new) }
         ensures failed { result ≡ Err Failed → Rose (open_faults self.old name.now) (open_faults self.new name.now) }
         ensures steady { IsTrue (sound self.old) → KeepsCounts (open_faults self.old) (open_faults self.new) }
         ensures cluster { cluster self.new ≡ cluster self.old }
+        ensures returned { KeepsCounts (returned self.old) (returned self.new) }
         ensures faults { KeepsCounts (faults self.old) (faults self.new) }
         ensures waits { KeepsCounts (waits self.old) (waits self.new) }
         ensures list_faults { list_faults self.new ≡ list_faults self.old }
+        ensures folder { folder self.new ≡ folder self.old }
         ensures sound { sound self.new ≡ sound self.old };
 
-    /// Adds the counts of a feed that was opened here to those of its name. It takes no memory.
+    /// Counts a feed that is given back, and adds its counts to those of its name. It takes no
+    /// memory.
     fn give_back(&mut self, name: &ShardName, feed: Self::Feed)
-        requires opened { StandsIn name.now (opened self.old) }
+        requires lent { returned self.old name.now < times name.now (opened self.old) }
         requires origin { Self.Feed.origin feed ≡ name.now }
         requires sound { IsTrue (sound self.old) → IsTrue (Self.Feed.sound feed) }
+        ensures returned { returned self.new name.now ≡ returned self.old name.now + 1 }
         ensures faults { faults self.new name.now ≡ raised (Self.Feed.faults feed) (faults self.old name.now) }
         ensures waits { waits self.new name.now ≡ raised (Self.Feed.waits feed) (waits self.old name.now) }
+        ensures other_returned { KeepsOthers name.now (returned self.old) (returned self.new) }
         ensures other_faults { KeepsOthers name.now (faults self.old) (faults self.new) }
         ensures other_waits { KeepsOthers name.now (waits self.old) (waits self.new) }
         ensures cluster { cluster self.new ≡ cluster self.old }
         ensures opened { opened self.new ≡ opened self.old }
         ensures open_faults { KeepsCounts (open_faults self.old) (open_faults self.new) }
         ensures list_faults { list_faults self.new ≡ list_faults self.old }
+        ensures folder { folder self.new ≡ folder self.old }
         ensures sound { sound self.new ≡ sound self.old };
 
     /// No count of faults of sound tablets stands at its last value.
     ghost below_last: { (t : Self) → IsTrue (sound t) → IsBelowLast (list_faults t) × ((n : ShardName) → IsBelowLast (faults t n) × IsBelowLast (open_faults t n)) };
+
+    /// Of no name are more feeds given back than its log was opened.
+    ghost within: { (t : Self) → (n : ShardName) → returned t n ≤ times n (opened t) };
 }

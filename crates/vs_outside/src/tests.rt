@@ -1,6 +1,7 @@
 use crate::{
     AskEnd, Clock, Failed, Feed, FeedAnswer, Got, MemClock, MemFeed, MemSink, MemSource,
-    MemTablets, Opened, Sink, SinkAnswer, Source, Tablets, names_keyspace, names_shard, write_all,
+    MemTablets, Opened, Sink, SinkAnswer, Source, Tablets, law_feeds, names_keyspace, names_shard,
+    write_all,
 };
 use std::alloc::{AllocError, Global};
 use vs_base::{ShardName, Text};
@@ -155,4 +156,9 @@ fn tablets_open_logs_by_their_scripts(rt: HostRuntime) -> Result<(), AllocError>
     );
     assert_eq!(rt; buf, *b"log\0");
     Ok(())
+}
+
+#[test]
+fn the_laws_are_called() {
+    law_feeds();
 }

@@ -1,9 +1,0 @@
-use Rattle.std.proofs.Common.{refl}
-use Rattle.vs_outside.proofs.OpeningLemmas.{count_of-push}
-use Rattle.vs_outside.proofs.mem_opening.Openings.push.Goals as goal
-
-pub returns-clause-faults : goal.returns-clause-faults
-returns-clause-faults c = rw c.in_ok-push.ensures.items (count_of-push (λ o. o.faults) c.args.self.now.openings.items _ refl)
-
-pub returns-clause-waits : goal.returns-clause-waits
-returns-clause-waits c = rw c.in_ok-push.ensures.items (count_of-push (λ o. o.waits) c.args.self.now.openings.items _ refl)
