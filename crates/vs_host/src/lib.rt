@@ -6,7 +6,6 @@ mod clock;
 mod feed;
 mod folder;
 mod listing;
-mod openings;
 mod path;
 mod terminal;
 
