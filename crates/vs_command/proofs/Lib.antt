@@ -12,3 +12,4 @@ pub mod RequestLemmas
 pub mod SaidLemmas
 pub mod DueLemmas
 pub mod StageLemmas
+pub mod OutsideLemmas
