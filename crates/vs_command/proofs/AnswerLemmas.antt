@@ -27,7 +27,8 @@ use Rattle.vs_command.specs.declared.start.Start.TheVariants.{At, Current}
 use Rattle.vs_command.specs.Sending.{IsNextTooLarge, vector_at, position_after, entry_frames}
 use Rattle.vs_command.specs.Built.{AreBuilt, IsNextUnbuilt}
 use Rattle.vs_command.specs.Fetched.{IsFetchedOf, IsOfShard, IsPlaced, read_as}
-use Rattle.vs_command.specs.Laws.{AreNoJournals, LawOfNewGtids, Laws}
+use Rattle.vs_entries.specs.Laws.{AreNoJournals}
+use Rattle.vs_command.specs.Laws.{LawOfNewGtids, Laws}
 use Rattle.vs_command.specs.Requests.{Asks}
 use Rattle.vs_command.specs.Streaming.Headline.{asked, silent}
 use Rattle.vs_command.specs.Streaming.Outcome.{unread, answers}

@@ -134,7 +134,7 @@ one_of_shard laws (Some shard) s start a b (◌⊎◌.inl (line, refused, is)) (
 one_of_shard laws (Some shard) s start a b (◌⊎◌.inr (schema, reads, asks)) (◌⊎◌.inl (line, refused, is)) = absurd (read_or_refused shard.schema schema line reads refused)
 one_of_shard laws (Some shard) s start a b (◌⊎◌.inr (schema, reads, p)) (◌⊎◌.inr (other, again, q)) =
     let log : Log = shard_log s shard.schema shard.log in
-    one_answer (shard_places s shard.schema shard.log) (laws.places (shard_rules s shard.schema) shard.log) s log start a b
+    one_answer (shard_places s shard.schema shard.log) (laws.places (shard_rules s shard.schema) shard.log).begins s log start a b
     (log_answer (shard_places s shard.schema shard.log) s log start a p) (log_answer (shard_places s shard.schema shard.log) s log start b q)
 
 -- ---- an input asks for one answer

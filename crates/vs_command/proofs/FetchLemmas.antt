@@ -19,6 +19,7 @@ use Rattle.vs_log.specs.Events.{joined, magic}
 use Rattle.vs_log.specs.Laws.{Grows}
 use Rattle.vs_log.specs.Meaning.{log_meant}
 use Rattle.vs_log.specs.Productions.{StandsAt}
+use Rattle.vs_rows.specs.Tables.{Tables}
 use Rattle.vs_log.specs.Table.{Rules}
 use Rattle.vs_entries.specs.Rules.{rules_of}
 use Rattle.vs_entries.specs.Pieces.{Fed, Gives, fresh, log_fed, rules_fed, with_piece}
@@ -33,7 +34,7 @@ use Rattle.vs_command.specs.Streaming.{or_none, schema_in}
 -- ---- more bytes
 
 -- what stands at a place stands there with more bytes
-StandsAt-more : (rules : Rules) (bytes more : List ℕ) (g : Gtid) (at : ℕ) → StandsAt rules bytes g at → StandsAt rules (bytes ++ more) g at
+StandsAt-more : (rules : Rules Tables) (bytes more : List ℕ) (g : Gtid) (at : ℕ) → StandsAt rules bytes g at → StandsAt rules (bytes ++ more) g at
 StandsAt-more rules bytes more g at h = record {
   before = h.before;
   event = h.event;
@@ -62,7 +63,7 @@ pub HasGiven-fresh : (keyspace : List ℕ) (schema : Schema) → HasGiven (fresh
 HasGiven-fresh keyspace schema = record { count = refl; within = omega arith; entries = refl; places = tt }
 
 -- what was given stays, whatever bytes come
-pub HasGiven-fed : ((rules : Rules) (bytes more : List ℕ) → Grows rules bytes more) → (r : Fed) (piece : List ℕ) (placed : List Placed) → HasGiven r placed → HasGiven (with_piece r piece) placed
+pub HasGiven-fed : ((rules : Rules Tables) (bytes more : List ℕ) → Grows rules bytes more) → (r : Fed) (piece : List ℕ) (placed : List Placed) → HasGiven r placed → HasGiven (with_piece r piece) placed
 HasGiven-fed law r piece placed h =
     let grows : Grows (rules_fed r) r.bytes piece = law (rules_fed r) r.bytes piece in
     record {

@@ -25,7 +25,8 @@ use Rattle.vs_model.specs.Copy.{picked}
 use Rattle.vs_model.specs.Legal.{AllCopiedFollows, NoParticipantStands}
 use Rattle.vs_model.specs.Steps.{SendsTx, Steps}
 use Rattle.vs_command.specs.Sending.{vector_at, position_after, entry_frames, IsCanonicalAlong}
-use Rattle.vs_command.specs.Laws.{LawOfTransactions, LawOfDue, AreNoJournals}
+use Rattle.vs_entries.specs.Laws.{AreNoJournals}
+use Rattle.vs_command.specs.Laws.{LawOfTransactions, LawOfDue}
 use Rattle.vs_command.proofs.BuiltLemmas.{kept}
 use Rattle.vs_command.specs.Streaming.{takes_all}
 

@@ -1,17 +1,12 @@
 -- The laws of the crates below on which the headline and the causes of answers stand, as their functions ensure them.
 use Rattle.std.specs.Prelude.{◌≡◌, ℕ, List, ◌++◌, Result}
-use Rattle.std.specs.List.{AllByRecursion}
-use Rattle.vs_base.specs.declared.Gtid.{Gtid}
 use Rattle.vs_base.specs.declared.ShardName.{ShardName}
 use Rattle.vs_gtid.specs.declared.Entry.{Entry}
 use Rattle.vs_gtid.specs.Positions.{Position}
 use Rattle.vs_gtid.specs.Logs.{Log, HaveDistinctGtids}
-use Rattle.vs_log.specs.Table.{Rules}
-use Rattle.vs_log.specs.Laws.{HasNewGtids}
-use Rattle.vs_log.specs.Meaning.{log_meant}
-use Rattle.vs_log.specs.Productions.{StandsAt}
-use Rattle.vs_schema.specs.declared.schema.Schema.{Schema}
-use Rattle.vs_entries.specs.Rules.{rules_of, IsNoJournal}
+use Rattle.vs_rows.specs.Tables.{Tables}
+use Rattle.vs_log.specs.Laws.{AlwaysNewGtids, AlwaysOnePlace}
+use Rattle.vs_entries.specs.Laws.{NeverReadsJournals}
 use Rattle.vs_frame.specs.Frames.{Begins, HasNone, IsPart, IsTooLong}
 use Rattle.vs_request.specs.Requests.{Says}
 use Rattle.vs_request.specs.declared.request.Request.{Request}
@@ -41,16 +36,13 @@ LawOfSteps = (cluster : Cluster) (rules : Filter) (v0 : Vector) (fs : List Frame
     AllCopiedFollows fs → Steps cluster rules v0 fs → Legal cluster rules v0 fs
 
 abbrev pub LawOfNewGtids : Type 0
-LawOfNewGtids = (rules : Rules) (bytes : List ℕ) → HasNewGtids (log_meant rules bytes)
-
-abbrev pub AreNoJournals : List Entry → Type 0
-AreNoJournals es = AllByRecursion (λ (e : Entry). IsNoJournal e.work) es
+LawOfNewGtids = AlwaysNewGtids Tables
 
 abbrev pub LawOfNoJournals : Type 0
-LawOfNoJournals = (keyspace : List ℕ) (schema : Schema) (bytes : List ℕ) → AreNoJournals (log_meant (rules_of keyspace schema) bytes).entries
+LawOfNoJournals = NeverReadsJournals
 
 abbrev pub LawOfPlaces : Type 0
-LawOfPlaces = (rules : Rules) (bytes : List ℕ) (g : Gtid) (at other : ℕ) → StandsAt rules bytes g at → StandsAt rules bytes g other → at ≡ other
+LawOfPlaces = AlwaysOnePlace Tables
 
 abbrev pub LawOfRequests : Type 0
 LawOfRequests = (bytes : List ℕ) (r s : Result Request RequestRefusal) → Says bytes r → Says bytes s → r ≡ s

@@ -17,6 +17,7 @@ use Rattle.vs_schema.specs.declared.refusal.SchemaRefusal.TheVariants as refusal
 use Rattle.vs_schema.specs.Rules.{schema_of}
 use Rattle.vs_log.specs.Meaning.{log_meant}
 use Rattle.vs_log.specs.Productions.{StandsAt}
+use Rattle.vs_rows.specs.Tables.{Tables}
 use Rattle.vs_log.specs.Table.{Rules}
 use Rattle.vs_entries.specs.Rules.{rules_of}
 use Rattle.vs_entries.specs.Reading.{no_schema}
@@ -46,7 +47,7 @@ unfoldable pub schema_in : List ℕ → Schema
 schema_in text = or_none (schema_of text)
 
 -- how the log of a shard with this schema text is read
-abbrev pub shard_rules : ShardName → List ℕ → Rules
+abbrev pub shard_rules : ShardName → List ℕ → Rules Tables
 shard_rules s text = rules_of s.keyspace (schema_in text)
 
 -- what the bytes of a shard's log mean, under its keyspace and its schema text

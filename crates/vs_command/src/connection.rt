@@ -27,6 +27,7 @@ use vs_log::{law_distinct, law_places};
 use vs_model::{law_due, law_frames, law_steps};
 use vs_outside::{Clock, Sink, Source, Tablets};
 use vs_request::law_requests;
+use vs_rows::Maps;
 
 /// The laws of the crates below, on which the headline and the causes of answers stand.
 fn laws()
@@ -35,9 +36,9 @@ fn laws()
     law_steps();
     law_frames();
     law_due();
-    law_distinct();
+    law_distinct::<Maps>();
     law_no_journals();
-    law_places();
+    law_places::<Maps>();
     law_front();
     law_requests();
 }

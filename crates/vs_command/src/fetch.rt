@@ -44,6 +44,7 @@ use vs_base::{List, OutOfMemory, ShardName};
 use vs_entries::{LogRefusal, Reader, Took};
 use vs_gtid::GtidSet;
 use vs_log::{law_distinct, law_growth};
+use vs_rows::Maps;
 use vs_outside::{AskEnd, Failed, Feed, Got, Opened, Tablets};
 use vs_schema::{Schema, SchemaRefusal};
 
@@ -78,7 +79,7 @@ fn drain(reader: &mut Reader, entries: &mut List<Placed>) -> Result<Option<LogFa
 {
     'entries: loop {
         match reader.next_entry() {
-            Ok(Took::Entry { entry, at }) => entries.push(Placed { entry, at })?,
+            Ok(Took::Entry { entry, at, .. }) => entries.push(Placed { entry, at })?,
             Ok(Took::More) => return Ok(None),
             Err(LogRefusal::BadLog { offset, why }) => return Ok(Some(LogFault { offset, why })),
             Err(LogRefusal::Memory) => return Err(AllocError),
@@ -149,7 +150,7 @@ fn read_feed<R: Wait, F: Feed>(
     ensures later { F.faults feed.old ≤ F.faults feed.new }
     ensures failed { result ≡ Err FeedEnd.Failed → Rose (F.faults feed.old) (F.faults feed.new) }
 {
-    law_growth();
+    law_growth::<Maps>();
     let Ok(mut reader) = Reader::new(alloc, schema, keyspace) else {
         return Err(FeedEnd::Memory);
     };
@@ -203,7 +204,7 @@ pub fn fetch_log<R: Wait, T: Tablets>(
     ensures folder { T.folder tablets.new ≡ T.folder tablets.old }
     ensures others { (n : ShardName) → same_name name.now n ≡ false → KeepsName T.faults T.waits T.open_faults tablets.old tablets.new n }
 {
-    law_distinct();
+    law_distinct::<Maps>();
     let opened = match tablets.open_log(alloc, name) {
         Ok(Some(opened)) => opened,
         Ok(None) => return Ok(None),

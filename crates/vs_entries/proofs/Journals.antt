@@ -11,19 +11,18 @@ use Rattle.vs_gtid.specs.declared.Entry.{Entry}
 use Rattle.vs_gtid.specs.Positions.{Position}
 use Rattle.vs_gtid.specs.Joins.{added}
 use Rattle.vs_gtid.specs.Logs.{Log}
-use Rattle.vs_log.specs.declared.Statement.{Statement}
-use Rattle.vs_log.specs.declared.Statement.TheVariants.{Begin, Commit, Savepoint, Xa, Single}
-use Rattle.vs_log.specs.declared.state.Counted.{Counted}
-use Rattle.vs_log.specs.declared.state.Counted.TheVariants.{Changed, Journaled}
-use Rattle.vs_log.specs.declared.State.{State}
+use Rattle.vs_log.specs.declared.statement.Statement.{Statement}
+use Rattle.vs_log.specs.declared.statement.Statement.TheVariants.{Begin, Commit, Savepoint, Xa, Single}
+use Rattle.vs_log.specs.States.{Counted}
+use Rattle.vs_log.specs.States.Counted.{Changed, Journaled}
+use Rattle.vs_log.specs.States.{State}
 use Rattle.vs_binlog.specs.Heads.{Event, body_of, kind_of}
 use Rattle.vs_binlog.specs.Bodies.{Said, query_body}
 use Rattle.vs_binlog.specs.Words.{first_word}
-use Rattle.vs_log.specs.Queries.{statement_of, statement_by, said, is_ddl, word_begin, word_commit, word_savepoint, word_xa}
+use Rattle.vs_entries.specs.Queries.{statement_of, statement_by, said, is_ddl, word_begin, word_commit, word_savepoint, word_xa}
 use Rattle.vs_log.specs.Table.{single_work}
 use Rattle.vs_log.specs.Meaning.{log_meant}
 use Rattle.vs_log.specs.Productions.{AreEntries, Begins, IsMiddle, IsSingle, IsTransaction, IsWork, Means}
-use Rattle.vs_log.proofs.Follows.{means}
 use Rattle.vs_schema.specs.declared.schema.Schema.{Schema}
 use Rattle.vs_rows.specs.declared.refusal.RowRefusal.{RowRefusal}
 use Rattle.vs_rows.specs.declared.outcome.RowsOf.{RowsOf}
@@ -31,6 +30,7 @@ use Rattle.vs_rows.specs.declared.outcome.RowsOf.TheVariants as told
 use Rattle.vs_rows.specs.Rows.{rows_meant}
 use Rattle.vs_rows.specs.Tables.{Tables, schema_of}
 use Rattle.vs_base.specs.declared.change.Change.{Change}
+use Rattle.vs_entries.specs.Laws.{AreNoJournals, LogLaws, NeverReadsJournals}
 use Rattle.vs_entries.specs.Rules.{counted_by, rules_of, tells_journal, IsNoJournal}
 
 -- a statement that stands alone
@@ -121,9 +121,6 @@ of_form : (keyspace : List ℕ) (schema : Schema) (group : List Event) (e : Entr
 of_form keyspace schema group e (◌⊎◌.inl one) = single (statement_of keyspace (body_of one.query)) one.statement e.work (statement_of-alone keyspace (body_of one.query)) one.says.layout one.work
 of_form keyspace schema group e (◌⊎◌.inr more) = of_work more.begun.counted e.work (of_middle keyspace schema [] more.begun.middle more.begun.counted more.maps more.begun.tells) more.begun.comes
 
-abbrev AreNoJournals : List Entry → Type 0
-AreNoJournals es = AllByRecursion (λ (e : Entry). IsNoJournal e.work) es
-
 of_entries : (keyspace : List ℕ) (schema : Schema) (known after : Position) (groups : List (List Event)) (es : List Entry) → AreEntries (rules_of keyspace schema) known groups es after → AreNoJournals es
 of_entries keyspace schema known after [] [] a = tt
 of_entries keyspace schema known after [] (e ∷ es) a = elim a [ ]
@@ -131,7 +128,7 @@ of_entries keyspace schema known after (group ∷ groups) [] a = elim a [ ]
 of_entries keyspace schema known after (group ∷ groups) (e ∷ es) a =
     (of_form keyspace schema group e a.0.form, of_entries keyspace schema (added known e.gtid) after groups es a.2)
 
-of_state : (keyspace : List ℕ) (schema : Schema) (events : List Event) (s : State) → Begins (rules_of keyspace schema) events s → AreNoJournals s.entries
+of_state : (keyspace : List ℕ) (schema : Schema) (events : List Event) (s : State Tables) → Begins (rules_of keyspace schema) events s → AreNoJournals s.entries
 of_state keyspace schema [] s b = subst (λ z. AreNoJournals z.entries) (sym b) tt
 of_state keyspace schema (e ∷ events) s b = of_entries keyspace schema s.base b.known b.log.groups s.entries b.log.are_entries
 
@@ -140,5 +137,5 @@ of_log keyspace schema bytes log (◌⊎◌.inl parts) = subst (λ z. AreNoJourn
 of_log keyspace schema bytes log (◌⊎◌.inr (◌⊎◌.inl short)) = subst (λ z. AreNoJournals z.entries) (sym short.2) tt
 of_log keyspace schema bytes log (◌⊎◌.inr (◌⊎◌.inr none)) = subst (λ z. AreNoJournals z.entries) (sym none.1) tt
 
-pub no_journals : (keyspace : List ℕ) (schema : Schema) (bytes : List ℕ) → AreNoJournals (log_meant (rules_of keyspace schema) bytes).entries
-no_journals keyspace schema bytes = of_log keyspace schema bytes (log_meant (rules_of keyspace schema) bytes) (means (rules_of keyspace schema) bytes)
+pub no_journals : LogLaws → NeverReadsJournals
+no_journals laws keyspace schema bytes = of_log keyspace schema bytes (log_meant (rules_of keyspace schema) bytes) (laws.meaning (rules_of keyspace schema) bytes).means

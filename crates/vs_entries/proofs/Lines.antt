@@ -2,12 +2,12 @@
 use Rattle.std.proofs.Common.{◌≡◌, ◌+◌, ◌++◌, ℕ, List, map, refl}
 use Rattle.vs_base.specs.declared.change.Change.{Change}
 use Rattle.vs_gtid.specs.declared.Work.TheVariants.{Rows}
-use Rattle.vs_log.specs.declared.state.Counted.TheVariants.{Changed}
+use Rattle.vs_log.specs.States.Counted.{Changed}
 use Rattle.std.specs.Prelude.{◌⊎◌, Result, Ok, Err}
 use Rattle.std.proofs.Common.{ap, subst, sym, ◌∙◌}
 use Rattle.vs_base.specs.declared.Gtid.{Gtid}
 use Rattle.vs_rows.specs.Rows.{rows_meant}
-use Rattle.vs_log.specs.declared.state.Place.TheVariants as place
+use Rattle.vs_log.specs.States.{Place as place}
 use Rattle.vs_base.specs.declared.Why.{Why}
 use Rattle.vs_rows.specs.declared.refusal.RowRefusal.{RowRefusal}
 use Rattle.vs_rows.specs.declared.refusal.RowRefusal.TheVariants as row
@@ -19,17 +19,17 @@ use Rattle.vs_entries.specs.Reading.{Moves, refusal_of, with_rows, with_table_ma
 use Rattle.vs_base.specs.declared.Why.TheVariants.{NoFormat}
 use Rattle.vs_log.specs.declared.event.Sort.{Sort}
 use Rattle.vs_log.specs.declared.event.Sort.TheVariants.{AnonymousEvent, PassedOver, FormatEvent, PreviousEvent, GtidEvent, QueryEvent, XidEvent, MapEvent, RowsEvent, ForeignEvent}
-use Rattle.vs_log.specs.declared.state.Place.{Place}
-use Rattle.vs_log.specs.declared.state.Place.TheVariants.{Front}
-use Rattle.vs_log.specs.declared.state.State.{State}
+use Rattle.vs_log.specs.States.{Place}
+use Rattle.vs_log.specs.States.Place.{Front}
+use Rattle.vs_log.specs.States.{State}
 use Rattle.vs_binlog.specs.Heads.{Event, body_of, kind_of, length_of}
 use Rattle.vs_schema.specs.declared.schema.Schema.{Schema}
 use Rattle.vs_log.specs.Table.{more_work, told, sum_with, size, line, ◌>>=◌}
-use Rattle.vs_log.proofs.Complete.{rows_work}
+use Rattle.vs_log.specs.Laws.{AddsChanges}
 use Rattle.vs_entries.specs.Rules.{counted_by, or_why, rules_of, why_of}
 
 -- what is not passed over counts with the entry that is open
-pub sum_with_counted : (place : Place) (sort : Sort) (n : ℕ) → (sort ≡ PassedOver → ⊥) → sum_with place sort n ≡ size place + n
+pub sum_with_counted : (place : Place Tables) (sort : Sort) (n : ℕ) → (sort ≡ PassedOver → ⊥) → sum_with place sort n ≡ size place + n
 sum_with_counted place AnonymousEvent n counted = refl
 sum_with_counted place PassedOver n counted = absurd (counted refl)
 sum_with_counted place FormatEvent n counted = refl
@@ -42,7 +42,7 @@ sum_with_counted place RowsEvent n counted = refl
 sum_with_counted place ForeignEvent n counted = refl
 
 -- before the format description nothing else is taken
-pub line_front_other : (keyspace : List ℕ) (schema : Schema) (s : State) (e : Event) (sort : Sort) → (sort ≡ FormatEvent → ⊥) → line (rules_of keyspace schema) s e Front sort ≡ Err NoFormat
+pub line_front_other : (keyspace : List ℕ) (schema : Schema) (s : State Tables) (e : Event) (sort : Sort) → (sort ≡ FormatEvent → ⊥) → line (rules_of keyspace schema) s e Front sort ≡ Err NoFormat
 line_front_other keyspace schema s e AnonymousEvent other = refl
 line_front_other keyspace schema s e PassedOver other = refl
 line_front_other keyspace schema s e FormatEvent other = absurd (other refl)
@@ -64,12 +64,12 @@ refused_so refusal (Ok tables) other (◌⊎◌.inr h) = cc
 refused_so refusal (Err meant) other (◌⊎◌.inl h) = absurd (other (cc))
 refused_so refusal (Err meant) other (◌⊎◌.inr h) = cc
 
-pub map_refused : (keyspace : List ℕ) (schema : Schema) (s : State) (e : Event) (g : Gtid) (bytes : ℕ) (maps : Tables) (changes : List Change) (refusal : RowRefusal) (told : Refusal) (old new : Progress) →
+pub map_refused : (keyspace : List ℕ) (schema : Schema) (s : State Tables) (e : Event) (g : Gtid) (bytes : ℕ) (maps : Tables) (changes : List Change) (refusal : RowRefusal) (told : Refusal) (old new : Progress) →
     new ≡ old → told ≡ refusal_of 19 refusal → Refused refusal (with_map keyspace schema maps (body_of e)) → Moves (Err told) old new (with_table_map keyspace schema s e g bytes maps changes)
 map_refused keyspace schema s e g bytes maps changes refusal told old new same is h =
     subst (λ z. Moves (Err z) old new (with_table_map keyspace schema s e g bytes maps changes)) (sym is) (go refusal h)
   where
-    f : Tables → Result State Why
+    f : Tables → Result (State Tables) Why
     f more = Ok (record s { place = place.Inside g (bytes + length_of e) more (Rows changes) })
 
     wrong : (refusal : RowRefusal) → (refusal ≡ row.Memory → ⊥) → Refused refusal (with_map keyspace schema maps (body_of e)) →
@@ -86,12 +86,12 @@ map_refused keyspace schema s e g bytes maps changes refusal told old new same i
     go row.Memory h = same
 
 -- a rows event whose changes were added
-pub rows_taken : (keyspace : List ℕ) (s : State) (e : Event) (g : Gtid) (bytes : ℕ) (maps : Tables) (changes more now : List Change) (kind size : ℕ) →
+pub rows_taken : AddsChanges → (keyspace : List ℕ) (s : State Tables) (e : Event) (g : Gtid) (bytes : ℕ) (maps : Tables) (changes more now : List Change) (kind size : ℕ) →
     kind ≡ kind_of e → size ≡ length_of e → counted_by keyspace kind (rows_meant maps kind (body_of e)) ≡ Ok (map Changed more) → now ≡ changes ++ more →
     with_rows keyspace s e g bytes maps changes ≡ Ok (record s { place = place.Inside g (bytes + size) maps (Rows now) })
-rows_taken keyspace s e g bytes maps changes more now kind size is long said added =
+rows_taken adds keyspace s e g bytes maps changes more now kind size is long said added =
     ap (λ k. counted_by keyspace k (rows_meant maps k (body_of e)) >>= λ counted. told s e g bytes maps (more_work (Rows changes) counted)) (sym is)
     ∙ ap (λ r. r >>= λ counted. told s e g bytes maps (more_work (Rows changes) counted)) said
-    ∙ ap (λ w. told s e g bytes maps w) (rows_work changes more)
+    ∙ ap (λ w. told s e g bytes maps w) (adds changes more)
     ∙ ap (λ z. Ok (record s { place = place.Inside g (bytes + length_of e) maps (Rows z) })) (sym added)
     ∙ ap (λ z. Ok (record s { place = place.Inside g (bytes + z) maps (Rows now) })) (sym long)

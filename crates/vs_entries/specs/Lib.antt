@@ -1,4 +1,6 @@
+pub mod Queries
 pub mod Rules
+pub mod Laws
 pub mod Reading
 pub mod Pieces
 pub mod Walks

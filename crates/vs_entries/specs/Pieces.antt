@@ -3,8 +3,9 @@ use Rattle.std.specs.Prelude.{◌≡◌, ℕ, suc, Bool, true, false, List, [], 
 use Rattle.vs_gtid.specs.declared.Entry.{Entry}
 use Rattle.vs_gtid.specs.Logs.{Log}
 use Rattle.vs_schema.specs.declared.schema.Schema.{Schema}
+use Rattle.vs_rows.specs.Tables.{Tables}
 use Rattle.vs_log.specs.Meaning.{log_meant}
-use Rattle.vs_log.specs.Productions.{StandsAt}
+use Rattle.vs_log.specs.Productions.{EntryEndsAt, StandsAt}
 use Rattle.vs_log.specs.Table.{Rules}
 use Rattle.vs_entries.specs.Rules.{rules_of}
 use Rattle.vs_entries.specs.declared.took.Took.{Took}
@@ -24,7 +25,7 @@ pub record Fed : Type 0 where
 abbrev pub fresh : List ℕ → Schema → Fed
 fresh keyspace schema = record { keyspace = keyspace; schema = schema; bytes = []; given = 0; spent = false }
 
-abbrev pub rules_fed : Fed → Rules
+abbrev pub rules_fed : Fed → Rules Tables
 rules_fed r = rules_of r.keyspace r.schema
 
 -- what the bytes mean
@@ -41,11 +42,11 @@ pub record IsBehind (n : ℕ) (entries : List Entry) (e : Entry) : Type 0 where
   pub are : entries ≡ before ++ e ∷ later
   pub count : length before ≡ n
 
--- The entry behind those that were given, with the place of its GTID event. Behind the last one: more is wanted, where nothing is wrong; else the fault, which stays.
+-- The entry behind those that were given, with the place of its GTID event, and that where the entry ends. Behind the last one: more is wanted, where nothing is wrong; else the fault, which stays.
 -- Once memory ran out, it is told each time.
 abbrev pub Gives : Fed → Result Took LogRefusal → Fed → Type 0
-Gives old (Ok (took.Entry e at)) new =
-    (old.spent ≡ false) × IsBehind old.given (log_fed old).entries e × StandsAt (rules_fed old) old.bytes e.gtid at × (new ≡ record old { given = suc old.given })
+Gives old (Ok (took.Entry e at end)) new =
+    (old.spent ≡ false) × IsBehind old.given (log_fed old).entries e × StandsAt (rules_fed old) old.bytes e.gtid at × EntryEndsAt (rules_fed old) old.bytes old.given end × (new ≡ record old { given = suc old.given })
 Gives old (Ok took.More) new = (old.spent ≡ false) × (old.given ≡ length (log_fed old).entries) × ((log_fed old).fault ≡ None) × (new ≡ old)
 Gives old (Err (BadLog offset why)) new = (old.spent ≡ false) × (old.given ≡ length (log_fed old).entries) × ((log_fed old).fault ≡ Some (offset, why)) × (new ≡ old)
 Gives old (Err Memory) new = new ≡ record old { spent = true }

@@ -12,15 +12,15 @@ use Rattle.vs_rows.specs.declared.refusal.RowRefusal.{RowRefusal}
 use Rattle.vs_rows.specs.declared.refusal.RowRefusal.TheVariants as row
 use Rattle.vs_rows.specs.Tables.{Tables, with_map}
 use Rattle.vs_rows.specs.Rows.{rows_meant}
-use Rattle.vs_log.specs.declared.state.Counted.{Counted}
-use Rattle.vs_log.specs.declared.state.Counted.TheVariants.{Changed}
-use Rattle.vs_log.specs.declared.state.Place.{Place}
-use Rattle.vs_log.specs.declared.state.Place.TheVariants as place
-use Rattle.vs_log.specs.declared.state.State.{State}
+use Rattle.vs_log.specs.States.{Counted}
+use Rattle.vs_log.specs.States.Counted.{Changed}
+use Rattle.vs_log.specs.States.{Place}
+use Rattle.vs_log.specs.States.{Place as place}
+use Rattle.vs_log.specs.States.{State}
 use Rattle.vs_binlog.specs.Heads.{Event, body_of, kind_of, length_of}
 use Rattle.vs_log.specs.Events.{is_held, last_place}
 use Rattle.vs_log.specs.Table.{Rules, step, with_base, ended, new_gtid, named, first_query, later_query, more_work, told, ◌>>=◌}
-use Rattle.vs_log.specs.Queries.{statement_of}
+use Rattle.vs_entries.specs.Queries.{statement_of}
 use Rattle.vs_log.specs.Meaning.{head_refusal}
 use Rattle.vs_entries.specs.Rules.{base_of, counted_by, or_why, rules_of, why_of}
 use Rattle.vs_entries.specs.declared.progress.Progress.{Progress}
@@ -47,28 +47,28 @@ Counts (Err (Wrong why)) meant = meant ≡ Err why
 Counts (Err Memory) meant = Unit {0}
 
 -- the place of a log, by the tables that are known and the changes so far
-abbrev pub place_of : Standing → Tables → List Change → Place
+abbrev pub place_of : Standing → Tables → List Change → Place Tables
 place_of Front maps changes = place.Front
 place_of (Between first) maps changes = place.Between first
 place_of (Named gtid bytes) maps changes = place.Named gtid bytes
 place_of (Inside gtid bytes) maps changes = place.Inside gtid bytes maps (Rows changes)
 
 -- the state of the table, without the entries that were given
-abbrev pub state_of : Progress → State
+abbrev pub state_of : Progress → State Tables
 state_of p = record { base = p.base; entries = []; known = p.known; place = place_of p.standing p.maps p.changes }
 
-abbrev pub with_entries : List Entry → State → State
+abbrev pub with_entries : List Entry → State Tables → State Tables
 with_entries entries s = record s { entries = entries }
 
 -- what was meant to be taken was, and perhaps an entry ended; or all stayed as it was
-abbrev pub Takes : Result (Option Entry) Refusal → Progress → Progress → Result State Why → Type 0
+abbrev pub Takes : Result (Option Entry) Refusal → Progress → Progress → Result (State Tables) Why → Type 0
 Takes (Ok None) old new meant = meant ≡ Ok (state_of new)
 Takes (Ok (Some e)) old new meant = meant ≡ Ok (with_entries (e ∷ []) (state_of new))
 Takes (Err (Wrong why)) old new meant = (meant ≡ Err why) × (new ≡ old)
 Takes (Err Memory) old new meant = new ≡ old
 
 -- the same of an event that ends no entry
-abbrev pub Moves : Result (Unit {0}) Refusal → Progress → Progress → Result State Why → Type 0
+abbrev pub Moves : Result (Unit {0}) Refusal → Progress → Progress → Result (State Tables) Why → Type 0
 Moves (Ok x) old new meant = meant ≡ Ok (state_of new)
 Moves (Err (Wrong why)) old new meant = (meant ≡ Err why) × (new ≡ old)
 Moves (Err Memory) old new meant = new ≡ old
@@ -77,7 +77,7 @@ Moves (Err Memory) old new meant = new ≡ old
 abbrev pub no_schema : Schema
 no_schema = record { tables = []; skipped = [] }
 
-abbrev pub any_rules : Rules
+abbrev pub any_rules : Rules Tables
 any_rules = rules_of [] no_schema
 
 -- no entry is open, and no base is known
@@ -93,32 +93,32 @@ is_refused Front why = false
 is_refused standing why = is_some why
 
 -- the log with the base that a PREVIOUS_GTIDS event tells
-abbrev pub with_previous : State → Event → Result State Why
+abbrev pub with_previous : State Tables → Event → Result (State Tables) Why
 with_previous s e = base_of (block_of (body_of e)) >>= λ set. Ok (with_base s set)
 
 -- the log with an entry that a GTID event begins
-abbrev pub with_gtid : State → Event → Result State Why
+abbrev pub with_gtid : State Tables → Event → Result (State Tables) Why
 with_gtid s e = new_gtid s.known (body_of e) >>= λ g. Ok (named s e g)
 
 -- the log with a query behind the GTID event of an entry, which has so many bytes
-abbrev pub with_query : List ℕ → State → Event → Gtid → ℕ → Result State Why
-with_query keyspace s e g bytes = statement_of keyspace (body_of e) >>= first_query s e g bytes
+abbrev pub with_query : List ℕ → State Tables → Event → Gtid → ℕ → Result (State Tables) Why
+with_query keyspace s e g bytes = statement_of keyspace (body_of e) >>= first_query [] s e g bytes
 
 -- the log with a query inside a transaction of these tables and changes
-abbrev pub with_later_query : List ℕ → State → Event → Gtid → ℕ → Tables → List Change → Result State Why
+abbrev pub with_later_query : List ℕ → State Tables → Event → Gtid → ℕ → Tables → List Change → Result (State Tables) Why
 with_later_query keyspace s e g bytes maps changes = statement_of keyspace (body_of e) >>= later_query s e g bytes maps (Rows changes)
 
 -- the log with an XID event, which ends such a transaction
-abbrev pub with_xid : State → Event → Gtid → List Change → Result State Why
+abbrev pub with_xid : State Tables → Event → Gtid → List Change → Result (State Tables) Why
 with_xid s e g changes = if nat_lt (length (body_of e)) 8 then Err (BadEvent 16) else Ok (ended s e g (Rows changes))
 
 -- the log with a table map in it
-abbrev pub with_table_map : List ℕ → Schema → State → Event → Gtid → ℕ → Tables → List Change → Result State Why
+abbrev pub with_table_map : List ℕ → Schema → State Tables → Event → Gtid → ℕ → Tables → List Change → Result (State Tables) Why
 with_table_map keyspace schema s e g bytes maps changes =
     or_why 19 (with_map keyspace schema maps (body_of e)) >>= λ more. Ok (record s { place = place.Inside g (bytes + length_of e) more (Rows changes) })
 
 -- the log with a rows event in it
-abbrev pub with_rows : List ℕ → State → Event → Gtid → ℕ → Tables → List Change → Result State Why
+abbrev pub with_rows : List ℕ → State Tables → Event → Gtid → ℕ → Tables → List Change → Result (State Tables) Why
 with_rows keyspace s e g bytes maps changes =
     counted_by keyspace (kind_of e) (rows_meant maps (kind_of e) (body_of e)) >>= λ counted. told s e g bytes maps (more_work (Rows changes) counted)
 
@@ -130,13 +130,3 @@ pub record IsFrontEvent (at : ℕ) (rest e : List ℕ) : Type 0 where
   pub head : 19 ≤ length e
   pub within : length e ≤ length rest
   pub early : at + length e ≤ last_place
-
--- what the event at the front of the rest makes of a log that stands so; or that there is none, and what is wrong
-abbrev pub next_state : Rules → ℕ → State → List ℕ → Result State (Option Why)
-next_state rules at s rest =
-    if is_held at rest
-    then (elim (step rules s (take (length_of rest) rest)) [
-      | Ok next ↦ Ok next
-      | Err why ↦ Err (Some why)
-    ])
-    else Err (head_refusal at s.place rest)

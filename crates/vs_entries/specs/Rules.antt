@@ -20,11 +20,11 @@ use Rattle.vs_rows.specs.declared.refusal.RowRefusal.{RowRefusal}
 use Rattle.vs_rows.specs.declared.refusal.RowRefusal.TheVariants as row
 use Rattle.vs_rows.specs.declared.outcome.RowsOf.{RowsOf}
 use Rattle.vs_rows.specs.declared.outcome.RowsOf.TheVariants as told
-use Rattle.vs_rows.specs.Tables.{schema_of, with_map}
+use Rattle.vs_rows.specs.Tables.{Tables, schema_of, with_map}
 use Rattle.vs_rows.specs.Rows.{rows_meant}
-use Rattle.vs_log.specs.declared.state.Counted.{Counted}
-use Rattle.vs_log.specs.declared.state.Counted.TheVariants.{Changed}
-use Rattle.vs_log.specs.Queries.{statement_of}
+use Rattle.vs_log.specs.States.{Counted}
+use Rattle.vs_log.specs.States.Counted.{Changed}
+use Rattle.vs_entries.specs.Queries.{statement_of}
 use Rattle.vs_log.specs.Table.{Rules, ◌>>=◌}
 
 -- the work is no journal
@@ -78,8 +78,9 @@ abbrev pub counted_by : List ℕ → ℕ → Result RowsOf RowRefusal → Result
 counted_by keyspace kind said = or_why kind said >>= counted_of keyspace
 
 -- how the log of a shard of the keyspace is read, under this schema
-abbrev pub rules_of : List ℕ → Schema → Rules
+abbrev pub rules_of : List ℕ → Schema → Rules Tables
 rules_of keyspace schema = record {
+  no_tables = [];
   statement = statement_of keyspace;
   block = λ body. base_of (block_of body);
   map = λ maps body. or_why 19 (with_map keyspace schema maps body);

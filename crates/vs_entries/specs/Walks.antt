@@ -2,13 +2,15 @@
 use Rattle.std.specs.Prelude.{◌≡◌, ◌≤◌, ◌+◌, ◌⊎◌, ℕ, Bool, true, false, List, [], ◌∷◌, length, drop, Option, Some, None, Result, Ok, Err}
 use Rattle.vs_base.specs.declared.Why.{Why}
 use Rattle.vs_gtid.specs.declared.Entry.{Entry}
-use Rattle.vs_binlog.specs.Heads.{Event, length_of}
-use Rattle.vs_log.specs.Events.{joined, last_place}
+use Rattle.vs_binlog.specs.Heads.{length_of}
+use Rattle.vs_rows.specs.Tables.{Tables}
+use Rattle.vs_log.specs.Events.{last_place}
 use Rattle.vs_log.specs.Meaning.{at_place, front, knows_base, log_meant}
-use Rattle.vs_log.specs.Productions.{Begins, IsCut, Refuses, StandsAt}
+use Rattle.vs_log.specs.Productions.{EntryEndsAt, StandsAt}
+use Rattle.vs_log.specs.Steps.{Reaches, next_state}
 use Rattle.vs_log.specs.Table.{Rules}
 use Rattle.vs_entries.specs.Pieces.{IsBehind}
-use Rattle.vs_entries.specs.Reading.{is_early, next_state, state_of, with_entries}
+use Rattle.vs_entries.specs.Reading.{is_early, state_of, with_entries}
 use Rattle.vs_entries.specs.declared.standing.Standing.{Standing}
 use Rattle.vs_entries.specs.declared.standing.Standing.TheVariants.{Front, Between, Named, Inside}
 use Rattle.vs_entries.specs.declared.walk.Next.{Next}
@@ -16,19 +18,16 @@ use Rattle.vs_entries.specs.declared.walk.Next.TheVariants.{Gave, Ended}
 use Rattle.vs_entries.specs.declared.walk.Walk.{Walk}
 
 -- the place of the GTID event of the entry that is open
-abbrev pub IsBegunAt : Rules → List ℕ → Standing → ℕ → Type 0
+abbrev pub IsBegunAt : Rules Tables → List ℕ → Standing → ℕ → Type 0
 IsBegunAt rules bytes Front at = Unit {0}
 IsBegunAt rules bytes (Between first) at = Unit {0}
 IsBegunAt rules bytes (Named gtid size) at = StandsAt rules bytes gtid at
 IsBegunAt rules bytes (Inside gtid size) at = StandsAt rules bytes gtid at
 
 -- The events up to where the walk stands begin a log, with the entries that it gave and what it has taken.
-pub record Stands (rules : Rules) (bytes : List ℕ) (walk : Walk) : Type 0 where
-  pub events : List Event
+pub record Stands (rules : Rules Tables) (bytes : List ℕ) (walk : Walk) : Type 0 where
   pub past : List Entry
-  pub cut : IsCut bytes events (drop walk.at bytes)
-  pub place : walk.at ≡ 4 + length (joined events)
-  pub begins : Begins rules events (with_entries past (state_of walk.progress))
+  pub reaches : Reaches rules bytes walk.at (with_entries past (state_of walk.progress))
   pub given : length past ≡ walk.given
   pub few : walk.given ≤ walk.at
   pub begun : IsBegunAt rules bytes walk.progress.standing walk.begun
@@ -46,7 +45,7 @@ begun_after (Between first) at begun = at
 begun_after standing at begun = begun
 
 -- an event was taken, and these entries end with it
-pub record IsMoved (rules : Rules) (bytes : List ℕ) (old new : Walk) (entries : List Entry) : Type 0 where
+pub record IsMoved (rules : Rules Tables) (bytes : List ℕ) (old new : Walk) (entries : List Entry) : Type 0 where
   pub next : next_state rules old.at (state_of old.progress) (drop old.at bytes) ≡ Ok (with_entries entries (state_of new.progress))
   pub place : new.at ≡ old.at + length_of (drop old.at bytes)
   pub later : old.at + 19 ≤ new.at
@@ -56,35 +55,36 @@ pub record IsMoved (rules : Rules) (bytes : List ℕ) (old new : Walk) (entries 
   pub given : new.given ≡ old.given + length entries
 
 -- what a turn over the bytes comes to: an event is taken, and perhaps an entry ends; or nothing whole is left, or it is refused
-abbrev pub TurnsTo : Rules → List ℕ → Walk → Walk → Option Next → Type 0
+abbrev pub TurnsTo : Rules Tables → List ℕ → Walk → Walk → Option Next → Type 0
 TurnsTo rules bytes old new None = IsMoved rules bytes old new []
 TurnsTo rules bytes old new (Some (Gave e)) = IsMoved rules bytes old new (e ∷ []) × (is_early old.progress.standing ≡ false)
 TurnsTo rules bytes old new (Some (Ended why)) = (next_state rules old.at (state_of old.progress) (drop old.at bytes) ≡ Err why) × (new ≡ old)
 
 -- where memory ran out, all stayed as it was
-abbrev pub Turned : {E : Type 0} → Rules → List ℕ → Walk → Walk → Result (Option Next) E → Type 0
+abbrev pub Turned : {E : Type 0} → Rules Tables → List ℕ → Walk → Walk → Result (Option Next) E → Type 0
 Turned rules bytes old new (Ok next) = TurnsTo rules bytes old new next
 Turned rules bytes old new (Err memory) = new ≡ old
 
 -- what is wrong with the first event behind the format description that isn't passed over
-pub record IsStuck (rules : Rules) (bytes : List ℕ) (walk : Walk) : Type 0 where
+pub record IsStuck (rules : Rules Tables) (bytes : List ℕ) (walk : Walk) : Type 0 where
   pub stands : Stands rules bytes walk
   pub first : walk.progress.standing ≡ Between true
   pub why : Why
-  pub refuses : Refuses rules (state_of walk.progress) walk.at (drop walk.at bytes) (Some why)
+  pub refused : next_state rules walk.at (state_of walk.progress) (drop walk.at bytes) ≡ Err (Some why)
 
 -- A walk over all bytes that were fed: whether its first event that tells of the base was refused.
-pub record IsWalk (rules : Rules) (bytes : List ℕ) (walk : Walk) (refused : Bool) : Type 0 where
+pub record IsWalk (rules : Rules Tables) (bytes : List ℕ) (walk : Walk) (refused : Bool) : Type 0 where
   pub stands : IsFresh walk ⊎ Stands rules bytes walk
   pub early : is_early walk.progress.standing ≡ true → (walk.given ≡ 0) × (knows_base rules bytes ≡ refused)
   pub stuck : refused ≡ true → IsStuck rules bytes walk
 
 -- the entry that comes next, or that none does, and what is wrong there
-abbrev pub ReadsTo : Rules → List ℕ → Walk → Walk → Next → Type 0
-ReadsTo rules bytes old new (Gave e) = IsBehind old.given (log_meant rules bytes).entries e × StandsAt rules bytes e.gtid new.begun × (new.given ≡ old.given + 1)
+abbrev pub ReadsTo : Rules Tables → List ℕ → Walk → Walk → Next → Type 0
+ReadsTo rules bytes old new (Gave e) =
+    IsBehind old.given (log_meant rules bytes).entries e × StandsAt rules bytes e.gtid new.begun × EntryEndsAt rules bytes old.given new.at × (new.given ≡ old.given + 1)
 ReadsTo rules bytes old new (Ended why) =
     (length (log_meant rules bytes).entries ≡ old.given) × ((log_meant rules bytes).fault ≡ at_place new.at why) × (new.given ≡ old.given)
 
-abbrev pub Reads : {E : Type 0} → Rules → List ℕ → Walk → Walk → Result Next E → Type 0
+abbrev pub Reads : {E : Type 0} → Rules Tables → List ℕ → Walk → Walk → Result Next E → Type 0
 Reads rules bytes old new (Ok next) = ReadsTo rules bytes old new next
 Reads rules bytes old new (Err memory) = new.given ≡ old.given

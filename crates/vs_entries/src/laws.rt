@@ -1,12 +1,25 @@
-ghost use Rattle.std.specs.Prelude.{List as Items, ℕ};
-ghost use Rattle.std.specs.List.{AllByRecursion};
-ghost use Rattle.vs_gtid.specs.declared.Entry.{Entry};
-ghost use Rattle.vs_schema.specs.declared.schema.Schema.{Schema};
-ghost use Rattle.vs_log.specs.Meaning.{log_meant};
-ghost use Rattle.vs_entries.specs.Rules.{IsNoJournal, rules_of};
+ghost use Rattle.vs_entries.specs.Laws.{LogLaws, NeverReadsJournals};
+
+use vs_log::{law_base, law_changes, law_entries, law_growth, law_meaning, law_steps};
+use vs_rows::Maps;
+
+/// The laws of logs, on which the reader stands. It does nothing.
+#[inline(always)]
+pub fn laws()
+    ensures { LogLaws }
+{
+    law_meaning::<Maps>();
+    law_growth::<Maps>();
+    law_base::<Maps>();
+    law_steps::<Maps>();
+    law_entries::<Maps>();
+    law_changes();
+}
 
 /// No entry that is read is a journal: one of the keyspace is refused where its rows stand.
-#[tactic(auto, using(crate::proofs::Journals::no_journals))]
+#[inline(always)]
 pub fn law_no_journals()
-    ensures { (keyspace : Items ℕ) (schema : Schema) (bytes : Items ℕ) → AllByRecursion (λ (e : Entry). IsNoJournal e.work) (log_meant (rules_of keyspace schema) bytes).entries }
-{}
+    ensures { NeverReadsJournals }
+{
+    laws();
+}

@@ -3,6 +3,7 @@ ghost use Rattle.std.specs.Prelude.{◌≡◌, ◌≤◌, ◌+◌, ◌++◌, ◌
 ghost use Rattle.vs_binlog.specs.Heads.{length_of};
 ghost use Rattle.vs_log.specs.Events.{last_place, limit, sort_of};
 ghost use Rattle.vs_log.specs.Meaning.{front, head_refusal};
+ghost use Rattle.vs_rows.specs.Tables.{Tables};
 ghost use Rattle.vs_log.specs.Table.{bytes_with, ended, line, size, step};
 
 use crate::body::{format_fault, named_gtid, read_base};
@@ -18,7 +19,7 @@ use vs_base::{Change, Gtid, List, OutOfMemory, Why};
 use vs_binlog::{Step, next_event, read_head};
 use vs_gtid::{GtidRefusal, GtidSet};
 use vs_journal::{Entry, Work};
-use vs_log::{Sort, Statement};
+use vs_log::{Sort, Statement, law_changes};
 use vs_rows::Maps;
 use vs_schema::Schema;
 
@@ -55,7 +56,7 @@ fn append_changes(
 }
 
 impl Progress {
-    ghost use Rattle.vs_log.specs.declared.state.Place.TheVariants.{Between, Front, Inside, Named};
+    ghost use Rattle.vs_log.specs.States.Place.{Between, Front, Inside, Named};
     ghost use Rattle.vs_gtid.specs.declared.entry.Work.TheVariants.{Rows};
     ghost use Rattle.vs_entries.specs.Reading.{
       Moves,
@@ -216,7 +217,7 @@ impl Progress {
         bytes: u32,
     ) -> Result<Option<Entry>, Refusal>
         requires head { 19 ≤ length event.now }
-        requires size { bytes_with (Named gtid bytes) event.now ≤ limit }
+        requires size { bytes_with {M = Tables} (Named gtid bytes) event.now ≤ limit }
         ensures { Takes result self.old self.new (line (rules_of keyspace.now no_schema) (state_of self.old) event.now (Named gtid bytes) (sort_of event.now)) }
     {
         match sort_in(event) {
@@ -422,6 +423,7 @@ impl Progress {
         requires size { bytes + length_of event.now ≤ limit }
         ensures { Moves result self.old self.new (with_rows keyspace.now (state_of self.old) event.now gtid bytes self.old.maps self.old.changes) }
     {
+        law_changes();
         let kind = read_head(event).kind;
         let more = read_rows(alloc, &self.maps, kind, body_of(event), keyspace)?;
         append_changes(alloc, &mut self.changes, more)?;

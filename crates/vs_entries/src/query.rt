@@ -1,6 +1,6 @@
 ghost use Rattle.std.specs.Prelude.{◌≡◌, IfOk, map};
 ghost use Rattle.vs_binlog.specs.Words.{first_word, upper};
-ghost use Rattle.vs_log.specs.Queries.{is_ddl, said, statement_of};
+ghost use Rattle.vs_entries.specs.Queries.{is_ddl, said, statement_of};
 ghost use Rattle.vs_entries.specs.Reading.{Answers};
 
 use crate::refusal::Refusal;
@@ -12,7 +12,7 @@ use vs_log::Statement;
 use vs_rows::is_schema_of;
 
 /// What the body of a query event says in the log of a shard of the keyspace.
-#[tactic(auto, unfolding(vs_log::specs::Queries::statement_of))]
+#[tactic(auto, unfolding(crate::specs::Queries::statement_of))]
 pub fn read_statement(alloc: Global, body: &[u8], keyspace: &[u8]) -> Result<Statement, Refusal>
     ensures { Answers result (statement_of keyspace.now body.now) }
 {

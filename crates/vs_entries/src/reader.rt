@@ -2,6 +2,7 @@ ghost use Rattle.std.specs.Prelude.{◌≡◌, [], IfOk, MatchOption, OnErr, OnO
 ghost use Rattle.vs_log.specs.Meaning.{knows_base};
 ghost use Rattle.vs_entries.specs.Pieces.{Gives, fresh, log_fed, rules_fed, with_piece};
 
+use crate::laws::laws;
 use crate::took::{LogRefusal, Took};
 use crate::walk::{Next, Walk, begins_as_log};
 use std::alloc::Global;
@@ -41,6 +42,7 @@ impl Reader {
     pub fn new(alloc: Global, schema: &Schema, keyspace: &[u8]) -> Result<Reader, OutOfMemory>
         ensures { IfOk result (λ r. r ≡ fresh keyspace.now schema.now) }
     {
+        laws();
         Ok(Reader {
             alloc,
             keyspace: Text::from_bytes(alloc, keyspace)?,
@@ -57,6 +59,7 @@ impl Reader {
         ensures ok { OnOk result (self.new ≡ with_piece self.old piece.now) }
         ensures err { OnErr result (self.new ≡ self.old) }
     {
+        laws();
         let held = self.fed.len();
         self.fed.extend_from_slice(piece)?;
         if self.refused || !self.walk.progress.standing.is_early() {
@@ -83,6 +86,7 @@ impl Reader {
     pub fn next_entry(&mut self) -> Result<Took, LogRefusal>
         ensures { Gives self.old result self.new }
     {
+        laws();
         if self.spent {
             return Err(LogRefusal::Memory);
         }
@@ -104,6 +108,7 @@ impl Reader {
             Ok(Next::Gave(entry)) => Ok(Took::Entry {
                 entry,
                 at: self.walk.begun as u64,
+                end: self.walk.at as u64,
             }),
             Ok(Next::Ended(None)) => Ok(Took::More),
             Ok(Next::Ended(Some(why))) => Err(LogRefusal::BadLog {
@@ -122,6 +127,7 @@ impl Reader {
     pub fn base(&self) -> Option<&GtidSet>
         ensures { MatchOption result ((knows_base (rules_fed self.now) self.now.bytes ≡ false) × ((log_fed self.now).base ≡ [])) (λ b. (knows_base (rules_fed self.now) self.now.bytes ≡ true) × (b.now ≡ (log_fed self.now).base)) }
     {
+        laws();
         if self.refused || !self.walk.progress.standing.is_early() {
             return Some(&self.walk.progress.base);
         }

@@ -5,8 +5,8 @@ use vs_journal::Entry;
 /// What a reader gives.
 #[derive(Debug, Drop)]
 pub enum Took {
-    /// the next entry, and the place of its GTID event in the log
-    Entry { entry: Entry, at: u64 },
+    /// the next entry, with the place of its GTID event in the log, and the place behind its last event
+    Entry { entry: Entry, at: u64, end: u64 },
     /// No entry is whole: the rest begins one, or is nothing.
     More,
 }

@@ -4,6 +4,7 @@ ghost use Rattle.vs_log.specs.Events.{last_place};
 ghost use Rattle.vs_log.specs.Meaning.{has_magic};
 
 use crate::front::front_event;
+use crate::laws::laws;
 use crate::progress::Progress;
 use crate::refusal::Refusal;
 use crate::standing::Standing;
@@ -109,6 +110,7 @@ impl Walk {
         ensures given { is_early self.new.progress.standing ≡ true → self.new.given ≡ self.old.given }
         ensures stuck { IsStuck (rules_of keyspace.now schema.now) bytes.now self.old → IsStuck (rules_of keyspace.now schema.now) bytes.now self.new }
     {
+        laws();
         'events: loop {
             match self.take_turn(alloc, bytes, keyspace, schema) {
                 Ok(None) => {}
@@ -134,6 +136,7 @@ impl Walk {
         ensures given { OnOk result (self.new.given ≡ self.old.given) }
         ensures err { OnErr result (IsFresh self.new) }
     {
+        laws();
         if bytes.len() < MAGIC.len() {
             return Ok(false);
         }

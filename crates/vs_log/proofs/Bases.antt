@@ -6,9 +6,9 @@ use Rattle.std.proofs.lemmas.Bool.Decides.{nat_tests}
 use Rattle.vs_base.specs.declared.Why.{Why}
 use Rattle.vs_gtid.specs.Logs.{Log}
 use Rattle.vs_gtid.specs.Positions.{Position}
-use Rattle.vs_log.specs.declared.state.Place.{Place}
-use Rattle.vs_log.specs.declared.state.Place.TheVariants.{Front, Between, Named, Inside}
-use Rattle.vs_log.specs.declared.state.State.{State}
+use Rattle.vs_log.specs.States.{Place}
+use Rattle.vs_log.specs.States.Place.{Front, Between, Named, Inside}
+use Rattle.vs_log.specs.States.{State}
 use Rattle.vs_binlog.specs.Heads.{Event, length_of}
 use Rattle.vs_log.specs.Events.{is_held, magic, joined}
 use Rattle.vs_log.specs.Table.{Rules, step}
@@ -22,26 +22,26 @@ use Rattle.vs_log.proofs.Complete.{complete}
 use Rattle.vs_log.proofs.Follows.{means}
 use Rattle.vs_log.proofs.Shapes.{left_nil, nil_from}
 
-base_from : (rules : Rules) (bytes : List ℕ) (right : Bool) → has_magic bytes ≡ right →
+base_from : {M : Type 0} (rules : Rules M) (bytes : List ℕ) (right : Bool) → has_magic bytes ≡ right →
     knows_base rules bytes ≡ (if right then follow_with tell_base (suc (length bytes)) rules 4 front (drop 4 bytes) else false)
 unfolding knows_base
 base_from rules bytes right h = ap (λ b. if b then follow_with tell_base (suc (length bytes)) rules 4 front (drop 4 bytes) else false) h
 
 -- whether the base is known, behind events that begin the log
-base_behind : (rules : Rules) (bytes : List ℕ) (events : List Event) (rest : List ℕ) (s : State) → IsCut bytes events rest → Begins rules events s →
+base_behind : {M : Type 0} (rules : Rules M) (bytes : List ℕ) (events : List Event) (rest : List ℕ) (s : State M) → IsCut bytes events rest → Begins rules events s →
     (m : ℕ) × (length rest < m) × (knows_base rules bytes ≡ follow_with tell_base m rules (4 + length (joined events)) s rest)
 base_behind rules bytes events rest s c b =
     let n = suc (length (magic ++ (joined events ++ rest))) in
     let k = follow_walk tell_base n rules 4 front s events rest c.whole c.short (complete rules events s b) (omega arith) in
     (k.0, k.1, ap (λ z. knows_base rules z) c.are ∙ base_from rules (magic ++ (joined events ++ rest)) true (magic_there (joined events ++ rest)) ∙ k.2)
 
-by_parts : (rules : Rules) (bytes : List ℕ) (events : List Event) (s : State) (rest : List ℕ) (why : Option Why) → IsCut bytes events rest → Begins rules events s →
+by_parts : {M : Type 0} (rules : Rules M) (bytes : List ℕ) (events : List Event) (s : State M) (rest : List ℕ) (why : Option Why) → IsCut bytes events rest → Begins rules events s →
     Refuses rules s (4 + length (joined events)) rest why → knows_base rules bytes ≡ is_base_known s.place why
 by_parts rules bytes events s rest why c b r =
     let k = base_behind rules bytes events rest s c b in
     k.2 ∙ follow_stops tell_base k.0 rules (4 + length (joined events)) s rest why k.1 r
 
-known_more : (place : Place) (why : Option Why) → is_base_known place None ≡ true → is_base_known place why ≡ true
+known_more : {M : Type 0} (place : Place M) (why : Option Why) → is_base_known place None ≡ true → is_base_known place why ≡ true
 known_more Front why h = absurd (cc)
 known_more (Between true) why h = absurd (cc)
 known_more (Between false) why h = refl
@@ -49,10 +49,10 @@ known_more (Named g bytes) why h = refl
 known_more (Inside g bytes maps work) why h = refl
 
 -- a base that is known stays known, and stays
-abbrev Keeps : State → State → Type 0
+abbrev Keeps : {M : Type 0} → State M → State M → Type 0
 Keeps s next = (is_base_known next.place None ≡ true) × (next.base ≡ s.base)
 
-moves_keep : (rules : Rules) (s : State) (e : Event) (place : Place) (next : State) → is_base_known s.place None ≡ true → is_base_known place None ≡ true → Moves rules s e place next → Keeps s next
+moves_keep : {M : Type 0} (rules : Rules M) (s : State M) (e : Event) (place : Place M) (next : State M) → is_base_known s.place None ≡ true → is_base_known place None ≡ true → Moves rules s e place next → Keeps s next
 moves_keep rules s e place next h k (formatted is) = absurd (cc)
 moves_keep rules s e place next h k (passed_between first p) = (h, refl)
 moves_keep rules s e place next h k (passed_named g bytes p) = (h, refl)
@@ -66,21 +66,21 @@ moves_keep rules s e place next h k (maps_on g bytes maps work more is) = (refl,
 moves_keep rules s e place next h k (tells g bytes maps work counted more is t) = (refl, refl)
 moves_keep rules s e place next h k (ends g bytes maps work end) = (refl, refl)
 
-pub step_keeps : (rules : Rules) (s : State) (e : Event) (next : State) → is_base_known s.place None ≡ true → step rules s e ≡ Ok next → Keeps s next
+pub step_keeps : {M : Type 0} (rules : Rules M) (s : State M) (e : Event) (next : State M) → is_base_known s.place None ≡ true → step rules s e ≡ Ok next → Keeps s next
 step_keeps rules s e next h t = moves_keep rules s e s.place next h h (step_moves rules s e next t).1
 
 -- what the reading comes to from there
-abbrev Knows : State → ℕ → Rules → ℕ → List ℕ → Type 0
+abbrev Knows : {M : Type 0} → State M → ℕ → Rules M → ℕ → List ℕ → Type 0
 Knows s n rules at rest = (follow_with tell_base n rules at s rest ≡ true) × ((follow n rules at s rest).base ≡ s.base)
 
-follow_knows : (n : ℕ) (rules : Rules) (at : ℕ) (s : State) (rest : List ℕ) → is_base_known s.place None ≡ true → Knows s n rules at rest
+follow_knows : {M : Type 0} (n : ℕ) (rules : Rules M) (at : ℕ) (s : State M) (rest : List ℕ) → is_base_known s.place None ≡ true → Knows s n rules at rest
 unfolding follow_with
 follow_knows zero rules at s rest h = (h, refl)
 follow_knows (suc n) rules at s rest h =
     turn (is_held at rest) (step rules s (take (length_of rest) rest)) refl (λ next k. follow_knows n rules (at + length_of rest) next (drop (length_of rest) rest) k)
   where
-    turn : (whole : Bool) (r : Result State Why) → step rules s (take (length_of rest) rest) ≡ r →
-        ((next : State) → is_base_known next.place None ≡ true → Knows next n rules (at + length_of rest) (drop (length_of rest) rest)) →
+    turn : (whole : Bool) (r : Result (State _) Why) → step rules s (take (length_of rest) rest) ≡ r →
+        ((next : State _) → is_base_known next.place None ≡ true → Knows next n rules (at + length_of rest) (drop (length_of rest) rest)) →
         (
         (
         if whole
@@ -102,7 +102,7 @@ follow_knows (suc n) rules at s rest h =
         let more = k next keeps.0 in
         (more.0, more.1 ∙ keeps.1)
 
-behind : (rules : Rules) (bytes : List ℕ) (events : List Event) (s : State) (rest : List ℕ) → IsCut bytes events rest → Begins rules events s → is_base_known s.place None ≡ true →
+behind : {M : Type 0} (rules : Rules M) (bytes : List ℕ) (events : List Event) (s : State M) (rest : List ℕ) → IsCut bytes events rest → Begins rules events s → is_base_known s.place None ≡ true →
     (knows_base rules bytes ≡ true) × ((log_meant rules bytes).base ≡ s.base)
 behind rules bytes events s rest c b h =
     let k = base_behind rules bytes events rest s c b in
@@ -111,15 +111,15 @@ behind rules bytes events s rest c b h =
       ap (λ (z : Log). z.base) l.2 ∙ (follow_knows l.0 rules (4 + length (joined events)) s rest h).1,
     )
 
-follow-short : (rules : Rules) (n : ℕ) (rest : List ℕ) → length rest < 19 → follow_with tell_base (suc n) rules 4 front rest ≡ false
+follow-short : {M : Type 0} (rules : Rules M) (n : ℕ) (rest : List ℕ) → length rest < 19 → follow_with tell_base (suc n) rules 4 front rest ≡ false
 unfolding follow_with is_held head_refusal
 follow-short rules n rest short = grind (arith, nat_tests)
 
-short : (rules : Rules) (bytes : List ℕ) → has_magic bytes ≡ true → length bytes < 4 → knows_base rules bytes ≡ false
+short : {M : Type 0} (rules : Rules M) (bytes : List ℕ) → has_magic bytes ≡ true → length bytes < 4 → knows_base rules bytes ≡ false
 short rules bytes h l = base_from rules bytes true h ∙ follow-short rules (length bytes) (drop 4 bytes) (omega (arith, length-drop 4 bytes))
 
 -- where the base isn't known, a PREVIOUS_GTIDS event may follow
-may_follow : (rules : Rules) (known : Position) (opened : List Event) (s : State) (place : Place) (why : Option Why) → IsBegun rules known opened s place → is_base_known place why ≡ false → is_first place ≡ true
+may_follow : {M : Type 0} (rules : Rules M) (known : Position) (opened : List Event) (s : State M) (place : Place M) (why : Option Why) → IsBegun rules known opened s place → is_base_known place why ≡ false → is_first place ≡ true
 may_follow rules known opened s Front why b h = elim b [ ]
 may_follow rules known opened s (Between true) why b h = refl
 may_follow rules known opened s (Between false) why b h = absurd (cc)
@@ -127,18 +127,18 @@ may_follow rules known opened s (Named g bytes) why b h = absurd (cc)
 may_follow rules known opened s (Inside g bytes maps work) why b h = absurd (cc)
 
 -- and then none stood before
-no_base : (rules : Rules) (events : List Event) (s : State) → Stands rules events s → is_first s.place ≡ true → s.base ≡ []
+no_base : {M : Type 0} (rules : Rules M) (events : List Event) (s : State M) → Stands rules events s → is_first s.place ≡ true → s.base ≡ []
 no_base rules events s st h =
     let l = st.log in
     let none : filter is_counted l.after ≡ [] = nil_from (filter is_counted l.after) (sym (ap (λ z. is_nil (filter is_counted (drop 1 z))) l.are) ∙ sym st.first ∙ h) in
     let no_previous : l.previous ≡ [] = left_nil l.previous (in_turn l.groups ++ st.opened) (sym l.parts ∙ none) in
     subst (λ z. IsBase rules z s.base) no_previous l.is_base
 
-begun_base : (rules : Rules) (events : List Event) (s : State) (why : Option Why) → Begins rules events s → is_base_known s.place why ≡ false → s.base ≡ []
-begun_base rules [] s why b h = ap (λ (z : State). z.base) b
+begun_base : {M : Type 0} (rules : Rules M) (events : List Event) (s : State M) (why : Option Why) → Begins rules events s → is_base_known s.place why ≡ false → s.base ≡ []
+begun_base rules [] s why b h = ap (λ (z : State _). z.base) b
 begun_base rules (e ∷ events) s why b h = no_base rules (e ∷ events) s b (may_follow rules b.known b.opened s s.place why b.begun h)
 
-unknown : (rules : Rules) (bytes : List ℕ) → knows_base rules bytes ≡ false → (log_meant rules bytes).base ≡ []
+unknown : {M : Type 0} (rules : Rules M) (bytes : List ℕ) → knows_base rules bytes ≡ false → (log_meant rules bytes).base ≡ []
 unknown rules bytes h = go (means rules bytes) where
   go : Means rules bytes (log_meant rules bytes) → (log_meant rules bytes).base ≡ []
   go (◌⊎◌.inl p) =
@@ -147,7 +147,7 @@ unknown rules bytes h = go (means rules bytes) where
   go (◌⊎◌.inr (◌⊎◌.inl small)) = ap (λ (z : Log). z.base) small.2
   go (◌⊎◌.inr (◌⊎◌.inr none)) = ap (λ (z : Log). z.base) none.1
 
-pub knows_its_base : (rules : Rules) (bytes : List ℕ) → KnowsItsBase rules bytes
+pub knows_its_base : {M : Type 0} (rules : Rules M) (bytes : List ℕ) → KnowsItsBase rules bytes
 knows_its_base rules bytes = record {
   parts = by_parts rules bytes;
   behind = behind rules bytes;

@@ -11,11 +11,11 @@ use Rattle.vs_gtid.specs.declared.Work.TheVariants.{Rows, Ddl, Other, Journal}
 use Rattle.vs_gtid.specs.declared.Entry.{Entry}
 use Rattle.vs_gtid.specs.Positions.{Position}
 use Rattle.vs_gtid.specs.Joins.{added}
-use Rattle.vs_log.specs.declared.state.Counted.{Counted}
-use Rattle.vs_log.specs.declared.state.Counted.TheVariants.{Changed}
-use Rattle.vs_log.specs.declared.state.Place.{Place}
-use Rattle.vs_log.specs.declared.state.Place.TheVariants.{Front, Between, Named, Inside}
-use Rattle.vs_log.specs.declared.state.State.{State}
+use Rattle.vs_log.specs.States.{Counted}
+use Rattle.vs_log.specs.States.Counted.{Changed}
+use Rattle.vs_log.specs.States.{Place}
+use Rattle.vs_log.specs.States.Place.{Front, Between, Named, Inside}
+use Rattle.vs_log.specs.States.{State}
 use Rattle.vs_binlog.specs.Heads.{Event, length_of}
 use Rattle.vs_log.specs.Events.{limit}
 use Rattle.vs_log.specs.Table.{Rules, one_more, more_work, step}
@@ -24,9 +24,8 @@ use Rattle.vs_log.specs.Productions.{is_counted, total, in_turn, is_nil, is_firs
 use Rattle.vs_log.proofs.Moves.Moves.{formatted, based, names, singles, begins, saves, maps_on, tells, ends}
 use Rattle.vs_log.proofs.Shapes.{total-append, no_entry, front_all}
 use Rattle.vs_log.proofs.Takes.{walk, walk_one, walk-append, takes_counted, filter_walk}
-use Rattle.vs_rows.specs.Tables.{Tables}
 
-abbrev standing : Position → List Entry → Position → Place → State
+abbrev standing : {M : Type 0} → Position → List Entry → Position → Place M → State M
 standing base entries known place = record { base = base; entries = entries; known = known; place = place }
 
 -- the work of things that count one behind the other
@@ -51,7 +50,7 @@ comes_work counted (Journal j) w = ap (λ z. more_work (Rows []) z) w
 comes_work counted (Ddl text) w = elim w [ ]
 comes_work counted Other w = elim w [ ]
 
-walk_middle : (rules : Rules) (base known : Position) (entries : List Entry) (g : Gtid) (bytes : ℕ) (before maps : Tables) (middle : List Event) (counted : List Counted) (work next : Work) →
+walk_middle : {M : Type 0} (rules : Rules M) (base known : Position) (entries : List Entry) (g : Gtid) (bytes : ℕ) (before maps : M) (middle : List Event) (counted : List Counted) (work next : Work) →
     IsMiddle rules before middle counted maps → more_work work counted ≡ Some next → bytes + total middle ≤ limit →
     walk rules (standing base entries known (Inside g bytes before work)) middle ≡ Ok (standing base entries known (Inside g (bytes + total middle) maps next))
 walk_middle rules base known entries g bytes before maps [] counted work next m w fits =
@@ -65,7 +64,7 @@ walk_middle rules base known entries g bytes before maps (e ∷ middle) counted 
     let sum : (bytes + length_of e) + total middle ≡ bytes + (length_of e + total middle) = omega arith in
     let fits_e : bytes + length_of e ≤ limit = omega arith in
     let fits_rest : (bytes + length_of e) + total middle ≤ limit = omega arith in
-    let last : ◌≡◌ {A = Result State Why} (Ok (standing base entries known (Inside g ((bytes + length_of e) + total middle) maps next))) (Ok (standing base entries known (Inside g (bytes + (length_of e + total middle)) maps next)))
+    let last : ◌≡◌ {A = Result (State _) Why} (Ok (standing base entries known (Inside g ((bytes + length_of e) + total middle) maps next))) (Ok (standing base entries known (Inside g (bytes + (length_of e + total middle)) maps next)))
     = ap (λ z. Ok (standing base entries known (Inside g z maps next))) sum in
     elim m [
       | ◌⊎◌.inl a ↦
@@ -83,11 +82,11 @@ walk_middle rules base known entries g bytes before maps (e ∷ middle) counted 
       ]
     ]
 
-step_named : (rules : Rules) (base known : Position) (entries : List Entry) (first : Bool) (e : Event) (g : Gtid) → IsGtid e g → IsNew known g → length_of e ≤ limit →
+step_named : {M : Type 0} (rules : Rules M) (base known : Position) (entries : List Entry) (first : Bool) (e : Event) (g : Gtid) → IsGtid e g → IsNew known g → length_of e ≤ limit →
     step rules (standing base entries known (Between first)) e ≡ Ok (standing base entries (added known g) (Named g (length_of e)))
 step_named rules base known entries first e g is new fits = takes_counted rules (standing base entries known (Between first)) e _ (omega arith) (names first g is new)
 
-walk_unended : (rules : Rules) (base known : Position) (entries : List Entry) (first : Bool) (opened : List Event) (g : Gtid) (maps : Tables) (work : Work) →
+walk_unended : {M : Type 0} (rules : Rules M) (base known : Position) (entries : List Entry) (first : Bool) (opened : List Event) (g : Gtid) (maps : M) (work : Work) →
     IsUnended rules opened g maps work → IsNew known g → total opened ≤ limit →
     walk rules (standing base entries known (Between first)) opened ≡ Ok (standing base entries (added known g) (Inside g (total opened) maps work))
 walk_unended rules base known entries first opened g maps work u new fits =
@@ -101,10 +100,10 @@ walk_unended rules base known entries first opened g maps work u new fits =
     ap (λ z. walk rules s z) u.are
     ∙ walk_one rules s t u.gtid (u.begin ∷ u.middle) (step_named rules base known entries first u.gtid g u.names new fits_gtid)
     ∙ walk_one rules t _ u.begin u.middle (takes_counted rules t u.begin _ fits_begin (begins g (length_of u.gtid) u.begins))
-    ∙ walk_middle rules base (added known g) entries g (length_of u.gtid + length_of u.begin) [] maps u.middle u.counted (Rows []) work u.tells (comes_work u.counted work u.comes) fits_middle
+    ∙ walk_middle rules base (added known g) entries g (length_of u.gtid + length_of u.begin) rules.no_tables maps u.middle u.counted (Rows []) work u.tells (comes_work u.counted work u.comes) fits_middle
     ∙ ap (λ z. Ok (standing base entries (added known g) (Inside g z maps work))) sum
 
-walk_single : (rules : Rules) (base known : Position) (entries : List Entry) (first : Bool) (group : List Event) (x : Entry) → IsSingle rules group x → IsNew known x.gtid → total group ≤ limit →
+walk_single : {M : Type 0} (rules : Rules M) (base known : Position) (entries : List Entry) (first : Bool) (group : List Event) (x : Entry) → IsSingle rules group x → IsNew known x.gtid → total group ≤ limit →
     walk rules (standing base entries known (Between first)) group ≡ Ok (standing base (entries ++ x ∷ []) (added known x.gtid) (Between false))
 walk_single rules base known entries first group x is new fits =
     let lengths : total group ≡ length_of is.gtid + (length_of is.query + 0) = ap total is.are in
@@ -117,7 +116,7 @@ walk_single rules base known entries first group x is new fits =
     ∙ walk_one rules t _ is.query [] (takes_counted rules t is.query _ fits_query (singles x.gtid (length_of is.gtid) is.statement x.work is.says is.work))
     ∙ ap (λ z. Ok (standing base (entries ++ record { gtid = x.gtid; time = z; work = x.work } ∷ []) (added known x.gtid) (Between false))) (sym is.time)
 
-walk_transaction : (rules : Rules) (base known : Position) (entries : List Entry) (first : Bool) (group : List Event) (x : Entry) → IsTransaction rules group x → IsNew known x.gtid → total group ≤ limit →
+walk_transaction : {M : Type 0} (rules : Rules M) (base known : Position) (entries : List Entry) (first : Bool) (group : List Event) (x : Entry) → IsTransaction rules group x → IsNew known x.gtid → total group ≤ limit →
     walk rules (standing base entries known (Between first)) group ≡ Ok (standing base (entries ++ x ∷ []) (added known x.gtid) (Between false))
 walk_transaction rules base known entries first group x is new fits =
     let lengths : total group ≡ total is.opened + (length_of is.last + 0) = ap total is.are ∙ total-append is.opened (is.last ∷ []) in
@@ -130,7 +129,7 @@ walk_transaction rules base known entries first group x is new fits =
     ∙ walk_one rules t _ is.last [] (takes_counted rules t is.last _ fits_last (ends x.gtid (total is.opened) is.maps x.work is.ends))
     ∙ ap (λ z. Ok (standing base (entries ++ record { gtid = x.gtid; time = z; work = x.work } ∷ []) (added known x.gtid) (Between false))) (sym is.time)
 
-walk_entry : (rules : Rules) (base known : Position) (entries : List Entry) (first : Bool) (group : List Event) (x : Entry) → IsEntry rules group x → IsNew known x.gtid →
+walk_entry : {M : Type 0} (rules : Rules M) (base known : Position) (entries : List Entry) (first : Bool) (group : List Event) (x : Entry) → IsEntry rules group x → IsNew known x.gtid →
     walk rules (standing base entries known (Between first)) group ≡ Ok (standing base (entries ++ x ∷ []) (added known x.gtid) (Between false))
 walk_entry rules base known entries first group x is new = elim is.form [
   | ◌⊎◌.inl single ↦ walk_single rules base known entries first group x single new is.size
@@ -147,7 +146,7 @@ unfolding first_behind
 still_false [] = refl
 still_false (group ∷ groups) = refl
 
-walk_groups : (rules : Rules) (base known after : Position) (entries es : List Entry) (first : Bool) (groups : List (List Event)) → AreEntries rules known groups es after →
+walk_groups : {M : Type 0} (rules : Rules M) (base known after : Position) (entries es : List Entry) (first : Bool) (groups : List (List Event)) → AreEntries rules known groups es after →
     walk rules (standing base entries known (Between first)) (in_turn groups) ≡ Ok (standing base (entries ++ es) after (Between (first_behind first groups)))
 unfolding first_behind
 walk_groups rules base known after entries [] first [] a =
@@ -162,7 +161,7 @@ walk_groups rules base known after entries (x ∷ es) first (group ∷ groups) a
     ∙ ap (λ z. Ok (standing base z after (Between (first_behind false groups)))) (append_assoc entries (x ∷ []) es)
     ∙ ap (λ z. Ok (standing base (entries ++ x ∷ es) after (Between z))) (still_false groups)
 
-walk_base : (rules : Rules) (base : Position) (previous : List Event) → IsBase rules previous base → AllByRecursion (λ e. length_of e ≤ limit) previous →
+walk_base : {M : Type 0} (rules : Rules M) (base : Position) (previous : List Event) → IsBase rules previous base → AllByRecursion (λ e. length_of e ≤ limit) previous →
     walk rules (standing [] [] [] (Between true)) previous ≡ Ok (standing base [] base (Between (is_nil previous)))
 walk_base rules base [] b fits = ap (λ z. Ok (standing z [] z (Between true))) (sym b)
 walk_base rules base (e ∷ []) b fits =
@@ -172,7 +171,7 @@ walk_base rules base (e ∷ []) b fits =
 walk_base rules base (e ∷ f ∷ es) b fits = elim b [ ]
 
 -- the open events lead to the place that they say
-walk_opened : (rules : Rules) (base known : Position) (entries : List Entry) (first : Bool) (opened : List Event) (s : State) (place : Place) → IsBegun rules known opened s place →
+walk_opened : {M : Type 0} (rules : Rules M) (base known : Position) (entries : List Entry) (first : Bool) (opened : List Event) (s : State M) (place : Place M) → IsBegun rules known opened s place →
     (is_first place ≡ (if is_nil opened then first else false)) →
     walk rules (standing base entries known (Between first)) opened ≡ Ok (standing base entries s.known place)
 walk_opened rules base known entries first opened s Front b f = elim b [ ]
@@ -201,7 +200,7 @@ kept_all P (e ∷ es) a = go (is_counted e) (kept_all P es a.1) where
   go false rest = rest
 
 -- whether any event counted, by the parts
-empty_parts : (rules : Rules) (base known : Position) (entries : List Entry) (previous : List Event) (groups : List (List Event)) (opened : List Event) → AreEntries rules base groups entries known →
+empty_parts : {M : Type 0} (rules : Rules M) (base known : Position) (entries : List Entry) (previous : List Event) (groups : List (List Event)) (opened : List Event) → AreEntries rules base groups entries known →
     is_nil (previous ++ (in_turn groups ++ opened)) ≡ (if is_nil opened then first_behind (is_nil previous) groups else false)
 unfolding first_behind
 empty_parts rules base known entries (e ∷ previous) [] [] a = refl
@@ -215,16 +214,16 @@ empty_parts rules base known (x ∷ es) [] ([] ∷ groups) opened a = absurd (no
 empty_parts rules base known (x ∷ es) [] ((e ∷ group) ∷ groups) [] a = refl
 empty_parts rules base known (x ∷ es) [] ((e ∷ group) ∷ groups) (o ∷ opened) a = refl
 
-walk_log : (rules : Rules) (events : List Event) (s : State) → Stands rules events s → walk rules front events ≡ Ok s
+walk_log : {M : Type 0} (rules : Rules M) (events : List Event) (s : State M) → Stands rules events s → walk rules front events ≡ Ok s
 walk_log rules events s st =
     let l = st.log in
     let sizes : AllByRecursion (λ e. length_of e ≤ limit) (l.format ∷ l.after) = subst (λ z. AllByRecursion (λ e. length_of e ≤ limit) z) l.are l.sizes in
     let fits : length_of l.format ≤ limit = sizes.0 in
     let kept : AllByRecursion (λ e. length_of e ≤ limit) (l.previous ++ (in_turn l.groups ++ st.opened)) =
     subst (λ z. AllByRecursion (λ e. length_of e ≤ limit) z) l.parts (kept_all (λ e. length_of e ≤ limit) l.after sizes.1) in
-    let one : State = standing [] [] [] (Between true) in
-    let two : State = standing s.base [] s.base (Between (is_nil l.previous)) in
-    let three : State = standing s.base s.entries st.known (Between (first_behind (is_nil l.previous) l.groups)) in
+    let one : State _ = standing [] [] [] (Between true) in
+    let two : State _ = standing s.base [] s.base (Between (is_nil l.previous)) in
+    let three : State _ = standing s.base s.entries st.known (Between (first_behind (is_nil l.previous) l.groups)) in
     let first : is_first s.place ≡ (if is_nil st.opened then first_behind (is_nil l.previous) l.groups else false) =
     st.first ∙ ap (λ z. is_nil (filter is_counted (drop 1 z))) l.are ∙ ap is_nil l.parts
     ∙ empty_parts rules s.base st.known s.entries l.previous l.groups st.opened l.are_entries in
@@ -238,6 +237,6 @@ walk_log rules events s st =
     )
 
 -- what begins a log, leads the table to the state that it says
-pub complete : (rules : Rules) (events : List Event) (s : State) → Begins rules events s → walk rules front events ≡ Ok s
+pub complete : {M : Type 0} (rules : Rules M) (events : List Event) (s : State M) → Begins rules events s → walk rules front events ≡ Ok s
 complete rules [] s b = ap (λ z. Ok z) (sym b)
 complete rules (e ∷ events) s b = walk_log rules (e ∷ events) s b

@@ -6,7 +6,7 @@ use Rattle.std.proofs.lemmas.List.{append-nil, take_at, drop_at, length-take-le,
 use Rattle.byteorder.specs.Endian.{little_from}
 use Rattle.vs_binlog.specs.Heads.{Event, length_of, kind_of, flags_of}
 use Rattle.vs_log.specs.Events.{sort, sort_of, is_held, last_place, magic, joined, IsEvent}
-use Rattle.vs_log.specs.declared.state.Place.{Place}
+use Rattle.vs_log.specs.States.{Place}
 use Rattle.vs_log.specs.Table.{sum_with, bytes_with}
 use Rattle.vs_log.specs.Meaning.{has_magic}
 use Rattle.vs_log.specs.Productions.{IsCut}
@@ -33,7 +33,7 @@ sort_of-append e more h =
     ap (λ z. little_from 0 2 z) (drop-append-le 17 e more (omega arith)) ∙ number_in_front 0 2 (drop 17 e) more (omega (arith, length-drop 17 e)) in
     ap (λ z. sort z (little_from 0 2 (drop 17 (e ++ more)))) kind ∙ ap (λ z. sort (get_or e 4 0) z) flags
 
-pub bytes_with-append : (place : Place) (e more : List ℕ) → 19 ≤ length e → bytes_with place (e ++ more) ≡ bytes_with place e
+pub bytes_with-append : {M : Type 0} (place : Place M) (e more : List ℕ) → 19 ≤ length e → bytes_with place (e ++ more) ≡ bytes_with place e
 unfolding bytes_with
 bytes_with-append place e more h =
     ap (λ z. sum_with place z (length_of (e ++ more))) (sort_of-append e more h) ∙ ap (λ z. sum_with place (sort_of e) z) (length_of-append e more h)

@@ -10,7 +10,7 @@ use Rattle.vs_gtid.specs.Positions.{Position, has}
 use Rattle.vs_gtid.specs.Joins.{added}
 use Rattle.vs_gtid.specs.Logs.{Log, HaveDistinctGtids}
 use Rattle.vs_gtid.proofs.JoinLemmas.{has-added}
-use Rattle.vs_log.specs.declared.state.State.{State}
+use Rattle.vs_log.specs.States.{State}
 use Rattle.vs_binlog.specs.Heads.{Event}
 use Rattle.vs_log.specs.Table.{Rules}
 use Rattle.vs_log.specs.Meaning.{log_meant}
@@ -39,7 +39,7 @@ lacks_it known g (e ∷ es) a =
 abbrev NewIn : Position → List Entry → Type 0
 NewIn base es = Lacks base es × HaveDistinctGtids es × FitAlong base es
 
-new_ones : (rules : Rules) (known after : Position) (groups : List (List Event)) (es : List Entry) → AreEntries rules known groups es after → NewIn known es
+new_ones : {M : Type 0} (rules : Rules M) (known after : Position) (groups : List (List Event)) (es : List Entry) → AreEntries rules known groups es after → NewIn known es
 new_ones rules known after [] [] a = (tt, tt, tt)
 new_ones rules known after [] (e ∷ es) a = elim a [ ]
 new_ones rules known after (group ∷ groups) [] a = elim a [ ]
@@ -47,16 +47,16 @@ new_ones rules known after (group ∷ groups) (e ∷ es) a =
     let rest = new_ones rules (added known e.gtid) after groups es a.2 in
     ((a.1.lacks, lacks_before known e.gtid es rest.0), (lacks_it known e.gtid es rest.0, rest.1), (a.1.few, rest.2))
 
-of_state : (rules : Rules) (events : List Event) (s : State) → Begins rules events s → NewIn s.base s.entries
+of_state : {M : Type 0} (rules : Rules M) (events : List Event) (s : State M) → Begins rules events s → NewIn s.base s.entries
 of_state rules [] s b = subst (λ z. NewIn z.base z.entries) (sym b) (tt, tt, tt)
 of_state rules (e ∷ events) s b = new_ones rules s.base b.known b.log.groups s.entries b.log.are_entries
 
-of_log : (rules : Rules) (bytes : List ℕ) (log : Log) → Means rules bytes log → NewIn log.base log.entries
+of_log : {M : Type 0} (rules : Rules M) (bytes : List ℕ) (log : Log) → Means rules bytes log → NewIn log.base log.entries
 of_log rules bytes log (◌⊎◌.inl parts) = subst (λ z. NewIn z.base z.entries) (sym parts.is) (of_state rules parts.events parts.state parts.begins)
 of_log rules bytes log (◌⊎◌.inr (◌⊎◌.inl short)) = subst (λ z. NewIn z.base z.entries) (sym short.2) (tt, tt, tt)
 of_log rules bytes log (◌⊎◌.inr (◌⊎◌.inr none)) = subst (λ z. NewIn z.base z.entries) (sym none.1) (tt, tt, tt)
 
-pub new_gtids : (rules : Rules) (bytes : List ℕ) → HasNewGtids (log_meant rules bytes)
+pub new_gtids : {M : Type 0} (rules : Rules M) (bytes : List ℕ) → HasNewGtids (log_meant rules bytes)
 new_gtids rules bytes =
     let n = of_log rules bytes (log_meant rules bytes) (means rules bytes) in
     record { distinct = n.1; lacking = n.0; few = n.2 }

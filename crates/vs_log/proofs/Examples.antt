@@ -9,7 +9,7 @@ use Rattle.vs_gtid.specs.declared.Work.TheVariants.{Other}
 use Rattle.vs_gtid.specs.Joins.{added, joined}
 use Rattle.vs_gtid.specs.Logs.{Log}
 use Rattle.vs_gtid.specs.Positions.{Position, has}
-use Rattle.vs_log.specs.declared.state.Statement.TheVariants.{Begin, Single}
+use Rattle.vs_log.specs.declared.statement.Statement.TheVariants.{Begin, Single}
 use Rattle.vs_binlog.specs.Heads.{time_of, kind_of, length_of, flags_of, body_of}
 use Rattle.vs_binlog.specs.Bodies.{gtid_body}
 use Rattle.vs_log.specs.Events.{sort_of, is_held, magic}
@@ -23,11 +23,11 @@ abbrev base : Position
 base = record { uuid = uuid 1; first = 1; last = 5 } ∷ []
 
 -- each query stands alone, and each block of GTIDs is the base
-abbrev rules : Rules
-rules = record { statement = λ body. Ok (Single Other); block = λ body. Ok base; map = λ maps body. Ok maps; rows = λ maps kind body. Ok [] }
+abbrev rules : Rules (Unit {0})
+rules = record { no_tables = tt; statement = λ body. Ok (Single Other); block = λ body. Ok base; map = λ maps body. Ok maps; rows = λ maps kind body. Ok [] }
 
 -- each query begins
-abbrev begun_rules : Rules
+abbrev begun_rules : Rules (Unit {0})
 begun_rules = record rules { statement = λ body. Ok Begin }
 
 -- a head of this kind at the time 7, for so many bytes, below 256

@@ -5,23 +5,23 @@ use Rattle.std.proofs.lemmas.Bool.{cases_lt}
 use Rattle.std.proofs.lemmas.List.{take_all, drop_all, length-drop, take-append-drop}
 use Rattle.vs_base.specs.declared.Why.{Why}
 use Rattle.vs_base.specs.declared.Why.TheVariants.{BadMagic}
-use Rattle.vs_log.specs.declared.state.State.{State}
+use Rattle.vs_log.specs.States.{State}
 use Rattle.vs_binlog.specs.Heads.{Event, length_of}
 use Rattle.vs_log.specs.Events.{is_held, last_place, magic, joined}
 use Rattle.vs_log.specs.Table.{Rules, step}
-use Rattle.vs_log.specs.Meaning.{front, head_refusal, log_of, follow, follow_with, has_magic, log_meant}
+use Rattle.vs_log.specs.Meaning.{front, head_refusal, log_of, log_unread, follow, follow_with, has_magic, log_meant}
 use Rattle.vs_log.specs.Productions.{Begins, IsCut, Parts, Means}
 use Rattle.vs_log.proofs.Sound.{sound_step}
 use Rattle.vs_log.proofs.Cuts.{held, cut_more, length_more, magic_front}
 
 -- the parts of bytes whose events so far begin a log
-Goes : Rules → List ℕ → ℕ → Type 0
+Goes : {M : Type 0} → Rules M → List ℕ → ℕ → Type 0
 Goes rules bytes n =
-    (events : List Event) (at : ℕ) (s : State) (rest : List ℕ) → IsCut bytes events rest → Begins rules events s → at ≡ 4 + length (joined events) → length rest < n →
+    (events : List Event) (at : ℕ) (s : State _) (rest : List ℕ) → IsCut bytes events rest → Begins rules events s → at ≡ 4 + length (joined events) → length rest < n →
     Parts rules bytes (follow n rules at s rest)
 
 -- nothing whole is left
-stopped : (rules : Rules) (bytes : List ℕ) (events : List Event) (at : ℕ) (s : State) (rest : List ℕ) (why : Option Why) → IsCut bytes events rest → Begins rules events s →
+stopped : {M : Type 0} (rules : Rules M) (bytes : List ℕ) (events : List Event) (at : ℕ) (s : State M) (rest : List ℕ) (why : Option Why) → IsCut bytes events rest → Begins rules events s →
     at ≡ 4 + length (joined events) → is_held at rest ≡ false → head_refusal at s.place rest ≡ why → Parts rules bytes (log_of s at why)
 stopped rules bytes events at s rest None c b p h r = record {
   events = events;
@@ -45,7 +45,7 @@ stopped rules bytes events at s rest (Some why) c b p h r = record {
 }
 
 -- an event is whole
-turned : (rules : Rules) (bytes : List ℕ) (n : ℕ) (events : List Event) (at : ℕ) (s : State) (rest : List ℕ) (r : Result State Why) → IsCut bytes events rest → Begins rules events s →
+turned : {M : Type 0} (rules : Rules M) (bytes : List ℕ) (n : ℕ) (events : List Event) (at : ℕ) (s : State M) (rest : List ℕ) (r : Result (State M) Why) → IsCut bytes events rest → Begins rules events s →
     at ≡ 4 + length (joined events) → length rest < suc n → is_held at rest ≡ true → step rules s (take (length_of rest) rest) ≡ r → Goes rules bytes n →
     Parts rules bytes (elim r [ Ok next ↦ follow n rules (at + length_of rest) next (drop (length_of rest) rest) | Err why ↦ log_of s at (Some why) ])
 unfolding Goes
@@ -70,7 +70,7 @@ turned rules bytes n events at s rest (Err why) c b p l h t goes =
       is = ap (λ z. log_of s z (Some why)) p;
     }
 
-turn : (rules : Rules) (bytes : List ℕ) (n : ℕ) (events : List Event) (at : ℕ) (s : State) (rest : List ℕ) (whole : Bool) → IsCut bytes events rest → Begins rules events s →
+turn : {M : Type 0} (rules : Rules M) (bytes : List ℕ) (n : ℕ) (events : List Event) (at : ℕ) (s : State M) (rest : List ℕ) (whole : Bool) → IsCut bytes events rest → Begins rules events s →
     at ≡ 4 + length (joined events) → length rest < suc n → is_held at rest ≡ whole → Goes rules bytes n →
     Parts rules bytes (
     if whole
@@ -80,7 +80,7 @@ turn : (rules : Rules) (bytes : List ℕ) (n : ℕ) (events : List Event) (at : 
 turn rules bytes n events at s rest true c b p l h goes = turned rules bytes n events at s rest (step rules s (take (length_of rest) rest)) c b p l h refl goes
 turn rules bytes n events at s rest false c b p l h goes = stopped rules bytes events at s rest _ c b p h refl
 
-goes : (rules : Rules) (bytes : List ℕ) (n : ℕ) → Goes rules bytes n
+goes : {M : Type 0} (rules : Rules M) (bytes : List ℕ) (n : ℕ) → Goes rules bytes n
 unfolding Goes follow_with
 goes rules bytes zero events at s rest c b p l = absurd (omega arith)
 goes rules bytes (suc n) events at s rest c b p l = turn rules bytes n events at s rest (is_held at rest) c b p l refl (goes rules bytes n)
@@ -89,12 +89,12 @@ goes rules bytes (suc n) events at s rest c b p l = turn rules bytes n events at
 whole_magic : (bytes : List ℕ) → has_magic bytes ≡ true → 4 ≤ length bytes → bytes ≡ magic ++ drop 4 bytes
 whole_magic bytes h l = sym (take-append-drop 4 bytes) ∙ ap (λ z. z ++ drop 4 bytes) (magic_front bytes h ∙ take_all (length bytes) magic l)
 
-pub short_magic : (rules : Rules) (bytes : List ℕ) → has_magic bytes ≡ true → length bytes < 4 → follow (suc (length bytes)) rules 4 front (drop 4 bytes) ≡ log_of front 0 None
+pub short_magic : {M : Type 0} (rules : Rules M) (bytes : List ℕ) → has_magic bytes ≡ true → length bytes < 4 → follow (suc (length bytes)) rules 4 front (drop 4 bytes) ≡ log_unread None
 unfolding follow_with is_held head_refusal
 short_magic rules bytes h l = ap (λ z. follow (suc (length bytes)) rules 4 front z) (drop_all 4 bytes (omega arith))
 
-meant : (rules : Rules) (bytes : List ℕ) (right : Bool) → has_magic bytes ≡ right →
-    Means rules bytes (if right then follow (suc (length bytes)) rules 4 front (drop 4 bytes) else log_of front 0 (Some BadMagic))
+meant : {M : Type 0} (rules : Rules M) (bytes : List ℕ) (right : Bool) → has_magic bytes ≡ right →
+    Means rules bytes (if right then follow (suc (length bytes)) rules 4 front (drop 4 bytes) else log_unread (Some BadMagic))
 meant rules bytes false h = ◌⊎◌.inr (◌⊎◌.inr (h, refl))
 meant rules bytes true h = elim (cases_lt (length bytes) 4) [
   | ◌⊎◌.inl l ↦ ◌⊎◌.inr (◌⊎◌.inl (l, sym (take_all 4 bytes (omega (arith, l))) ∙ magic_front bytes h, short_magic rules bytes h l))
@@ -103,6 +103,6 @@ meant rules bytes true h = elim (cases_lt (length bytes) 4) [
 ]
 
 -- what bytes mean by the table, they mean by the productions
-pub means : (rules : Rules) (bytes : List ℕ) → Means rules bytes (log_meant rules bytes)
+pub means : {M : Type 0} (rules : Rules M) (bytes : List ℕ) → Means rules bytes (log_meant rules bytes)
 unfolding log_meant
 means rules bytes = meant rules bytes (has_magic bytes) refl

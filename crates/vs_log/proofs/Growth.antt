@@ -9,9 +9,9 @@ use Rattle.vs_base.specs.declared.Why.{Why}
 use Rattle.vs_gtid.specs.declared.Entry.{Entry}
 use Rattle.vs_gtid.specs.Logs.{Log}
 use Rattle.vs_gtid.specs.Positions.{Position}
-use Rattle.vs_log.specs.declared.state.Place.{Place}
-use Rattle.vs_log.specs.declared.state.Place.TheVariants.{Between}
-use Rattle.vs_log.specs.declared.state.State.{State}
+use Rattle.vs_log.specs.States.{Place}
+use Rattle.vs_log.specs.States.Place.{Between}
+use Rattle.vs_log.specs.States.{State}
 use Rattle.vs_binlog.specs.Heads.{Event, length_of}
 use Rattle.vs_log.specs.Events.{is_held, magic, joined}
 use Rattle.vs_log.specs.Table.{Rules, step}
@@ -32,7 +32,7 @@ same_entries es = ([], sym (append-nil es))
 extends_on : (es fs gs : List Entry) → Extends es fs → Extends fs gs → Extends es gs
 extends_on es fs gs a b = (a.0 ++ b.0, b.1 ∙ ap (λ z. z ++ b.0) a.1 ∙ append_assoc es a.0 b.0)
 
-moves_extend : (rules : Rules) (s : State) (e : Event) (place : Place) (next : State) → Moves rules s e place next → Extends s.entries next.entries
+moves_extend : {M : Type 0} (rules : Rules M) (s : State M) (e : Event) (place : Place M) (next : State M) → Moves rules s e place next → Extends s.entries next.entries
 moves_extend rules s e place next (formatted is) = same_entries s.entries
 moves_extend rules s e place next (passed_between first k) = same_entries s.entries
 moves_extend rules s e place next (passed_named g bytes k) = same_entries s.entries
@@ -46,14 +46,14 @@ moves_extend rules s e place next (maps_on g bytes maps work more is) = same_ent
 moves_extend rules s e place next (tells g bytes maps work counted more is t) = same_entries s.entries
 moves_extend rules s e place next (ends g bytes maps work end) = (_, refl)
 
-follow_extends : (n : ℕ) (rules : Rules) (at : ℕ) (s : State) (rest : List ℕ) → Extends s.entries (follow n rules at s rest).entries
+follow_extends : {M : Type 0} (n : ℕ) (rules : Rules M) (at : ℕ) (s : State M) (rest : List ℕ) → Extends s.entries (follow n rules at s rest).entries
 unfolding follow_with
 follow_extends zero rules at s rest = same_entries s.entries
 follow_extends (suc n) rules at s rest =
     turn (is_held at rest) (step rules s (take (length_of rest) rest)) refl (λ next. follow_extends n rules (at + length_of rest) next (drop (length_of rest) rest))
   where
-    turn : (whole : Bool) (r : Result State Why) → step rules s (take (length_of rest) rest) ≡ r →
-        ((next : State) → Extends next.entries (follow n rules (at + length_of rest) next (drop (length_of rest) rest)).entries) →
+    turn : (whole : Bool) (r : Result (State _) Why) → step rules s (take (length_of rest) rest) ≡ r →
+        ((next : State _) → Extends next.entries (follow n rules (at + length_of rest) next (drop (length_of rest) rest)).entries) →
         Extends s.entries (
         if whole
         then (elim r [ Ok next ↦ follow n rules (at + length_of rest) next (drop (length_of rest) rest) | Err why ↦ log_of s at (Some why) ])
@@ -85,7 +85,7 @@ cut_longer bytes more events rest c = record {
   short = c.short;
 }
 
-pub more_entries : (rules : Rules) (bytes more : List ℕ) → Extends (log_meant rules bytes).entries (log_meant rules (bytes ++ more)).entries
+pub more_entries : {M : Type 0} (rules : Rules M) (bytes more : List ℕ) → Extends (log_meant rules bytes).entries (log_meant rules (bytes ++ more)).entries
 more_entries rules bytes more = go (means rules bytes) where
   go : Means rules bytes (log_meant rules bytes) → Extends (log_meant rules bytes).entries (log_meant rules (bytes ++ more)).entries
   go (◌⊎◌.inl p) =
@@ -96,16 +96,16 @@ more_entries rules bytes more = go (means rules bytes) where
   go (◌⊎◌.inr (◌⊎◌.inr none)) = ((log_meant rules (bytes ++ more)).entries, sym (ap (λ (z : Log). z.entries ++ (log_meant rules (bytes ++ more)).entries) none.1))
 
 -- where a whole log ends
-abbrev pub whole_state : List Event → Position → List Entry → Position → State
+abbrev pub whole_state : {M : Type 0} → List Event → Position → List Entry → Position → State M
 whole_state events base es known = record { base = base; entries = es; known = known; place = Between (is_nil (filter is_counted (drop 1 events))) }
 
-pub whole_begins : (rules : Rules) (events : List Event) (base : Position) (es : List Entry) (known : Position) → IsLog rules events base es known [] →
+pub whole_begins : {M : Type 0} (rules : Rules M) (events : List Event) (base : Position) (es : List Entry) (known : Position) → IsLog rules events base es known [] →
     Begins rules events (whole_state events base es known)
 whole_begins rules [] base es known l = absurd (let h : [] ≡ l.format ∷ l.after = l.are in cc)
 whole_begins rules (e ∷ events) base es known l = record { known = known; opened = []; log = l; begun = (refl, refl); first = refl }
 
 -- a whole log means itself
-pub whole_log : (rules : Rules) (bytes : List ℕ) (base : Position) (es : List Entry) → IsWholeLog rules bytes base es → log_meant rules bytes ≡ record { base = base; entries = es; fault = None }
+pub whole_log : {M : Type 0} (rules : Rules M) (bytes : List ℕ) (base : Position) (es : List Entry) → IsWholeLog rules bytes base es → log_meant rules bytes ≡ record { base = base; entries = es; fault = None }
 unfolding is_held head_refusal
 whole_log rules bytes base es w = sym (only rules bytes _ (◌⊎◌.inl (record {
   events = w.events;
@@ -119,7 +119,7 @@ whole_log rules bytes base es w = sym (only rules bytes _ (◌⊎◌.inl (record
 })))
 
 -- the entries of events that begin the log come first
-pub entries_behind : (rules : Rules) (bytes : List ℕ) (events : List Event) (rest : List ℕ) (s : State) → IsCut bytes events rest → Begins rules events s → Extends s.entries (log_meant rules bytes).entries
+pub entries_behind : {M : Type 0} (rules : Rules M) (bytes : List ℕ) (events : List Event) (rest : List ℕ) (s : State M) → IsCut bytes events rest → Begins rules events s → Extends s.entries (log_meant rules bytes).entries
 entries_behind rules bytes events rest s c b =
     let k = log_behind rules bytes events rest s c b in
     let e = follow_extends k.0 rules (4 + length (joined events)) s rest in

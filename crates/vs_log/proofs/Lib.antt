@@ -15,4 +15,6 @@ pub mod Bases
 pub mod Names
 pub mod Past
 pub mod Places
+pub mod Ends
+pub mod Steps
 mod Examples

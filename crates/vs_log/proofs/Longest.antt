@@ -8,9 +8,9 @@ use Rattle.vs_base.specs.declared.Why.{Why}
 use Rattle.vs_gtid.specs.declared.Entry.{Entry}
 use Rattle.vs_gtid.specs.Logs.{Log}
 use Rattle.vs_gtid.specs.Positions.{Position}
-use Rattle.vs_log.specs.declared.state.Place.{Place}
-use Rattle.vs_log.specs.declared.state.Place.TheVariants.{Between}
-use Rattle.vs_log.specs.declared.state.State.{State}
+use Rattle.vs_log.specs.States.{Place}
+use Rattle.vs_log.specs.States.Place.{Between}
+use Rattle.vs_log.specs.States.{State}
 use Rattle.vs_binlog.specs.Heads.{Event, length_of}
 use Rattle.vs_log.specs.Events.{is_held, last_place, magic, joined, IsEvent}
 use Rattle.vs_log.specs.Table.{Rules, step}
@@ -30,7 +30,7 @@ use Rattle.vs_log.proofs.Only.{magic_there}
 use Rattle.vs_log.proofs.Growth.{more_entries, whole_state, whole_begins, whole_log}
 
 -- the longest front of the events that is a whole log
-record Best (rules : Rules) (events : List Event) (base : Position) (entries : List Entry) : Type 0 where
+record Best {M : Type 0} (rules : Rules M) (events : List Event) (base : Position) (entries : List Entry) : Type 0 where
   some : List Event
   others : List Event
   are : events ≡ some ++ others
@@ -38,26 +38,26 @@ record Best (rules : Rules) (events : List Event) (base : Position) (entries : L
   log : IsLog rules some base entries known []
   longest : (these tail : List Event) (b k : Position) (es : List Entry) → events ≡ these ++ tail → IsLog rules these b es k [] → length (joined these) ≤ length (joined some)
 
-abbrev NoneWhole : Rules → List Event → Type 0
+abbrev NoneWhole : {M : Type 0} → Rules M → List Event → Type 0
 NoneWhole rules events = (these tail : List Event) (b k : Position) (es : List Entry) → events ≡ these ++ tail → IsLog rules these b es k [] → ⊥
 
-abbrev BestOrNone : Rules → List Event → Position → List Entry → Type 0
+abbrev BestOrNone : {M : Type 0} → Rules M → List Event → Position → List Entry → Type 0
 BestOrNone rules events base entries = Best rules events base entries ⊎ (NoneWhole rules events × (base ≡ []) × (entries ≡ []))
 
-abbrev is_between : Place → Bool
+abbrev pub is_between : {M : Type 0} → Place M → Bool
 is_between (Between first) = true
 is_between place = false
 
-closed : (rules : Rules) (known : Position) (opened : List Event) (s : State) (place : Place) → is_between place ≡ true → IsBegun rules known opened s place → opened ≡ []
+pub closed : {M : Type 0} (rules : Rules M) (known : Position) (opened : List Event) (s : State M) (place : Place M) → is_between place ≡ true → IsBegun rules known opened s place → opened ≡ []
 closed rules known opened s (Between first) h b = b.0
 closed rules known opened s place h b = absurd (cc)
 
-stands : (rules : Rules) (events : List Event) (e : Event) (s : State) → Begins rules (events ++ e ∷ []) s → Stands rules (events ++ e ∷ []) s
+pub stands : {M : Type 0} (rules : Rules M) (events : List Event) (e : Event) (s : State M) → Begins rules (events ++ e ∷ []) s → Stands rules (events ++ e ∷ []) s
 stands rules [] e s b = b
 stands rules (f ∷ events) e s b = b
 
 -- what leaves an entry open, adds none
-kept : (rules : Rules) (s : State) (e : Event) (place : Place) (next : State) → is_between next.place ≡ false → Moves rules s e place next → (s.base ≡ next.base) × (s.entries ≡ next.entries)
+kept : {M : Type 0} (rules : Rules M) (s : State M) (e : Event) (place : Place M) (next : State M) → is_between next.place ≡ false → Moves rules s e place next → (s.base ≡ next.base) × (s.entries ≡ next.entries)
 kept rules s e place next b (formatted is) = absurd (cc)
 kept rules s e place next b (passed_between first k) = (refl, refl)
 kept rules s e place next b (passed_named g bytes k) = (refl, refl)
@@ -87,7 +87,7 @@ front_of (x ∷ xs) (y ∷ ys) e zs h =
     ]
 
 -- no whole log leads to an open entry
-not_open : (rules : Rules) (events : List Event) (s : State) (b k : Position) (es : List Entry) → Begins rules events s → is_between s.place ≡ false → IsLog rules events b es k [] → ⊥
+not_open : {M : Type 0} (rules : Rules M) (events : List Event) (s : State M) (b k : Position) (es : List Entry) → Begins rules events s → is_between s.place ≡ false → IsLog rules events b es k [] → ⊥
 not_open rules events s b k es begun open_ l =
     let one : s ≡ whole_state events b es k = (takes_beginnings rules).once events s (whole_state events b es k) begun (whole_begins rules events b es k l) in
     let h : false ≡ true = sym open_ ∙ ap (λ z. is_between z.place) one in
@@ -97,7 +97,7 @@ joined_front : (these tail events : List Event) → events ≡ these ++ tail →
 joined_front these tail events h =
     omega (arith, ap (λ z. length (joined z)) h, ap length (joined-append these tail), length-append (joined these) (joined tail))
 
-best_more : (rules : Rules) (events : List Event) (e : Event) (base : Position) (entries : List Entry) (next : State) → BestOrNone rules events base entries →
+best_more : {M : Type 0} (rules : Rules M) (events : List Event) (e : Event) (base : Position) (entries : List Entry) (next : State M) → BestOrNone rules events base entries →
     Begins rules (events ++ e ∷ []) next → is_between next.place ≡ false → BestOrNone rules (events ++ e ∷ []) base entries
 best_more rules events e base entries next (◌⊎◌.inl best) b h = ◌⊎◌.inl (record {
   some = best.some;
@@ -119,7 +119,7 @@ best_more rules events e base entries next (◌⊎◌.inr none) b h = ◌⊎◌.
   none.2,
 )
 
-best_step : (rules : Rules) (events : List Event) (s next : State) (e : Event) → BestOrNone rules events s.base s.entries → Begins rules events s → step rules s e ≡ Ok next →
+best_step : {M : Type 0} (rules : Rules M) (events : List Event) (s next : State M) (e : Event) → BestOrNone rules events s.base s.entries → Begins rules events s → step rules s e ≡ Ok next →
     BestOrNone rules (events ++ e ∷ []) next.base next.entries
 best_step rules events s next e best b h = elim (cases_Bool (is_between next.place)) [
   | ◌⊎◌.inl now ↦ (
@@ -140,21 +140,21 @@ best_step rules events s next e best b h = elim (cases_Bool (is_between next.pla
       )
 ]
 
-best_walk : (rules : Rules) (events more : List Event) (s t : State) → BestOrNone rules events s.base s.entries → Begins rules events s → walk rules s more ≡ Ok t →
+best_walk : {M : Type 0} (rules : Rules M) (events more : List Event) (s t : State M) → BestOrNone rules events s.base s.entries → Begins rules events s → walk rules s more ≡ Ok t →
     BestOrNone rules (events ++ more) t.base t.entries
 best_walk rules events [] s t best b w =
     let same : s ≡ t = cc in
-    subst (λ z. BestOrNone rules z t.base t.entries) (sym (append-nil events)) (subst (λ (z : State). BestOrNone rules events z.base z.entries) same best)
+    subst (λ z. BestOrNone rules z t.base t.entries) (sym (append-nil events)) (subst (λ (z : State _). BestOrNone rules events z.base z.entries) same best)
 best_walk rules events (e ∷ more) s t best b w =
     let c = chained (step rules s e) (λ z. walk rules z more) t w in
     subst (λ z. BestOrNone rules z t.base t.entries) (append_assoc events (e ∷ []) more)
     (best_walk rules (events ++ e ∷ []) more c.0 t (best_step rules events s c.0 e best b c.1) (sound_step rules events s c.0 e b c.1) c.2)
 
-none_first : (rules : Rules) → NoneWhole rules []
+none_first : {M : Type 0} (rules : Rules M) → NoneWhole rules []
 none_first rules [] tail b k es h l = let g : [] ≡ l.format ∷ l.after = l.are in cc
 none_first rules (x ∷ xs) tail b k es h l = cc
 
-best_of : (rules : Rules) (events : List Event) (s : State) → Begins rules events s → BestOrNone rules events s.base s.entries
+best_of : {M : Type 0} (rules : Rules M) (events : List Event) (s : State M) → Begins rules events s → BestOrNone rules events s.base s.entries
 best_of rules events s b = best_walk rules [] events front s (◌⊎◌.inr (none_first rules, refl, refl)) refl (complete rules events s b)
 
 -- two ways to cut one list of bytes: one has the events of the other at its front
@@ -178,7 +178,7 @@ cut_fronts (e ∷ xs) (f ∷ ys) r q a b h =
     ]
 
 -- where an event is refused, no log goes on with it
-not_on : (rules : Rules) (events tail : List Event) (s t : State) (at : ℕ) (rest more : List ℕ) (e : Event) (why : Option Why) → Begins rules events s → Refuses rules s at rest why →
+not_on : {M : Type 0} (rules : Rules M) (events tail : List Event) (s t : State M) (at : ℕ) (rest more : List ℕ) (e : Event) (why : Option Why) → Begins rules events s → Refuses rules s at rest why →
     rest ≡ e ++ more → IsEvent e → at + length e ≤ last_place → Begins rules (events ++ e ∷ tail) t → ⊥
 not_on rules events tail s t at rest more e why b r are is short also = go why r where
   whole : is_held at rest ≡ true
@@ -192,7 +192,7 @@ not_on rules events tail s t at rest more e why b r are is short also = go why r
       (takes_beginnings rules).refuses events tail s t e w b (subst (λ z. step rules s z ≡ Err w) same x.refused) also
 
 -- the events of a whole log at the front are events of the log
-front_events : (rules : Rules) (bytes first more : List ℕ) (b : Position) (es : List Entry) (log : Log) (p : Parts rules bytes log) → bytes ≡ first ++ more → (w : IsWholeLog rules first b es) →
+front_events : {M : Type 0} (rules : Rules M) (bytes first more : List ℕ) (b : Position) (es : List Entry) (log : Log) (p : Parts rules bytes log) → bytes ≡ first ++ more → (w : IsWholeLog rules first b es) →
     (tail : List Event) × (p.events ≡ w.events ++ tail)
 front_events rules bytes first more b es log p are w = elim (cut_fronts w.events p.events more p.rest w.cut.whole p.cut.whole same) [
   | ◌⊎◌.inl t ↦ t
@@ -214,13 +214,13 @@ front_events rules bytes first more b es log p are w = elim (cut_fronts w.events
       length-append e (joined tail),
     )
 
-whole_length : (rules : Rules) (first : List ℕ) (b : Position) (es : List Entry) (w : IsWholeLog rules first b es) → length first ≡ 4 + length (joined w.events)
+whole_length : {M : Type 0} (rules : Rules M) (first : List ℕ) (b : Position) (es : List Entry) (w : IsWholeLog rules first b es) → length first ≡ 4 + length (joined w.events)
 whole_length rules first b es w = omega (arith, ap length w.cut.are, ap length (append-nil (joined w.events)))
 
-abbrev LongestOrNone : Rules → List ℕ → Position → List Entry → Type 0
+abbrev LongestOrNone : {M : Type 0} → Rules M → List ℕ → Position → List Entry → Type 0
 LongestOrNone rules bytes base entries = IsLongest rules bytes base entries ⊎ (HasNone rules bytes × (base ≡ []) × (entries ≡ []))
 
-longest_parts : (rules : Rules) (bytes : List ℕ) (log : Log) (p : Parts rules bytes log) (base : Position) (entries : List Entry) → Best rules p.events base entries → IsLongest rules bytes base entries
+longest_parts : {M : Type 0} (rules : Rules M) (bytes : List ℕ) (log : Log) (p : Parts rules bytes log) (base : Position) (entries : List Entry) → Best rules p.events base entries → IsLongest rules bytes base entries
 longest_parts rules bytes log p base entries best = record {
   prefix = magic ++ joined best.some;
   rest = joined best.others ++ p.rest;
@@ -242,7 +242,7 @@ longest_parts rules bytes log p base entries best = record {
       omega (arith, whole_length rules first b es w, best.longest w.events t.0 b w.known es t.1 w.log);
 }
 
-of_parts : (rules : Rules) (bytes : List ℕ) (log : Log) (p : Parts rules bytes log) → LongestOrNone rules bytes p.state.base p.state.entries
+of_parts : {M : Type 0} (rules : Rules M) (bytes : List ℕ) (log : Log) (p : Parts rules bytes log) → LongestOrNone rules bytes p.state.base p.state.entries
 of_parts rules bytes log p = elim (best_of rules p.events p.state p.begins) [
   | ◌⊎◌.inl best ↦ ◌⊎◌.inl (longest_parts rules bytes log p p.state.base p.state.entries best)
   | ◌⊎◌.inr none ↦ ◌⊎◌.inr (
@@ -252,27 +252,27 @@ of_parts rules bytes log p = elim (best_of rules p.events p.state p.begins) [
   )
 ]
 
-no_log : (rules : Rules) (bytes first more : List ℕ) (b : Position) (es : List Entry) → has_magic bytes ≡ false → bytes ≡ first ++ more → IsWholeLog rules first b es → ⊥
+no_log : {M : Type 0} (rules : Rules M) (bytes first more : List ℕ) (b : Position) (es : List Entry) → has_magic bytes ≡ false → bytes ≡ first ++ more → IsWholeLog rules first b es → ⊥
 no_log rules bytes first more b es h are w =
     let begins_so : bytes ≡ magic ++ ((joined w.events ++ []) ++ more) = are ∙ ap (λ z. z ++ more) w.cut.are in
     let never : true ≡ false = sym (ap (λ z. has_magic z) begins_so ∙ magic_there ((joined w.events ++ []) ++ more)) ∙ h in
     cc
 
-too_short : (rules : Rules) (bytes first more : List ℕ) (b : Position) (es : List Entry) → length bytes < 4 → bytes ≡ first ++ more → IsWholeLog rules first b es → ⊥
+too_short : {M : Type 0} (rules : Rules M) (bytes first more : List ℕ) (b : Position) (es : List Entry) → length bytes < 4 → bytes ≡ first ++ more → IsWholeLog rules first b es → ⊥
 too_short rules bytes first more b es h are w = let l : 4 ≤ length bytes = omega (arith, ap length are, length-append first more, whole_length rules first b es w) in omega arith
 
-of_means : (rules : Rules) (bytes : List ℕ) (log : Log) → Means rules bytes log → LongestOrNone rules bytes log.base log.entries
+of_means : {M : Type 0} (rules : Rules M) (bytes : List ℕ) (log : Log) → Means rules bytes log → LongestOrNone rules bytes log.base log.entries
 of_means rules bytes log (◌⊎◌.inl p) = subst (λ (z : Log). LongestOrNone rules bytes z.base z.entries) (sym p.is) (of_parts rules bytes log p)
 of_means rules bytes log (◌⊎◌.inr (◌⊎◌.inl short)) =
     ◌⊎◌.inr (λ first more b es are w. too_short rules bytes first more b es short.0 are w, ap (λ (z : Log). z.base) short.2, ap (λ (z : Log). z.entries) short.2)
 of_means rules bytes log (◌⊎◌.inr (◌⊎◌.inr none)) =
     ◌⊎◌.inr (λ first more b es are w. no_log rules bytes first more b es none.0 are w, ap (λ (z : Log). z.base) none.1, ap (λ (z : Log). z.entries) none.1)
 
-comes_first : (rules : Rules) (bytes first rest : List ℕ) (base : Position) (es : List Entry) → bytes ≡ first ++ rest → IsWholeLog rules first base es →
+comes_first : {M : Type 0} (rules : Rules M) (bytes first rest : List ℕ) (base : Position) (es : List Entry) → bytes ≡ first ++ rest → IsWholeLog rules first base es →
     (later : List Entry) × ((log_meant rules bytes).entries ≡ es ++ later)
 comes_first rules bytes first rest base es are w =
     let m = more_entries rules first rest in
     (m.0, ap (λ z. (log_meant rules z).entries) are ∙ m.1 ∙ ap (λ (z : Log). z.entries ++ m.0) (whole_log rules first base es w))
 
-pub of_whole_log : (rules : Rules) (bytes : List ℕ) → IsOfWholeLog rules bytes
+pub of_whole_log : {M : Type 0} (rules : Rules M) (bytes : List ℕ) → IsOfWholeLog rules bytes
 of_whole_log rules bytes = record { some = of_means rules bytes (log_meant rules bytes) (means rules bytes); fronts = comes_first rules bytes }

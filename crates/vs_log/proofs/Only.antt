@@ -8,11 +8,11 @@ use Rattle.std.proofs.lemmas.Slice.Eq.{bytes_eq-Decides}
 use Rattle.vs_base.specs.declared.Why.{Why}
 use Rattle.vs_base.specs.declared.Why.TheVariants.{BadMagic}
 use Rattle.vs_gtid.specs.Logs.{Log}
-use Rattle.vs_log.specs.declared.state.State.{State}
+use Rattle.vs_log.specs.States.{State}
 use Rattle.vs_binlog.specs.Heads.{Event, length_of}
 use Rattle.vs_log.specs.Events.{is_held, last_place, magic, joined, IsEvent}
 use Rattle.vs_log.specs.Table.{Rules, step}
-use Rattle.vs_log.specs.Meaning.{front, head_refusal, log_of, follow, follow_with, has_magic, log_meant}
+use Rattle.vs_log.specs.Meaning.{front, head_refusal, log_of, log_unread, follow, follow_with, has_magic, log_meant}
 use Rattle.vs_log.specs.Productions.{Begins, IsCut, Refuses, Parts, Means}
 use Rattle.vs_log.specs.Laws.{MeansByProductions}
 use Rattle.vs_log.proofs.Moves.{chained}
@@ -21,23 +21,23 @@ use Rattle.vs_log.proofs.Follows.{means, short_magic}
 use Rattle.vs_log.proofs.Takes.{walk}
 use Rattle.vs_log.proofs.Complete.{complete}
 
-abbrev gone_on : {A : Type 0} → (State → ℕ → Option Why → A) → ℕ → Rules → ℕ → State → List ℕ → Result State Why → A
+abbrev gone_on : {M : Type 0} {A : Type 0} → (State M → ℕ → Option Why → A) → ℕ → Rules M → ℕ → State M → List ℕ → Result (State M) Why → A
 gone_on tell n rules at s rest r = elim r [ Ok next ↦ follow_with tell n rules (at + length_of rest) next (drop (length_of rest) rest) | Err why ↦ tell s at (Some why) ]
 
-abbrev one_turn : {A : Type 0} → (State → ℕ → Option Why → A) → ℕ → Rules → ℕ → State → List ℕ → Bool → A
+abbrev one_turn : {M : Type 0} {A : Type 0} → (State M → ℕ → Option Why → A) → ℕ → Rules M → ℕ → State M → List ℕ → Bool → A
 one_turn tell n rules at s rest whole = if whole then gone_on tell n rules at s rest (step rules s (take (length_of rest) rest)) else tell s at (head_refusal at s.place rest)
 
-follow_turn : {A : Type 0} (tell : State → ℕ → Option Why → A) (n : ℕ) (rules : Rules) (at : ℕ) (s : State) (rest : List ℕ) (whole : Bool) → is_held at rest ≡ whole → follow_with tell (suc n) rules at s rest ≡ one_turn tell n rules at s rest whole
+follow_turn : {M : Type 0} {A : Type 0} (tell : State M → ℕ → Option Why → A) (n : ℕ) (rules : Rules M) (at : ℕ) (s : State M) (rest : List ℕ) (whole : Bool) → is_held at rest ≡ whole → follow_with tell (suc n) rules at s rest ≡ one_turn tell n rules at s rest whole
 unfolding follow_with
 follow_turn tell n rules at s rest whole h = ap (λ b. one_turn tell n rules at s rest b) h
 
-follow_event : {A : Type 0} (tell : State → ℕ → Option Why → A) (n : ℕ) (rules : Rules) (at : ℕ) (s : State) (e more : List ℕ) (r : Result State Why) → IsEvent e → at + length e ≤ last_place → step rules s e ≡ r →
+follow_event : {M : Type 0} {A : Type 0} (tell : State M → ℕ → Option Why → A) (n : ℕ) (rules : Rules M) (at : ℕ) (s : State M) (e more : List ℕ) (r : Result (State M) Why) → IsEvent e → at + length e ≤ last_place → step rules s e ≡ r →
     follow_with tell (suc n) rules at s (e ++ more) ≡ gone_on tell n rules at s (e ++ more) r
 follow_event tell n rules at s e more r is short h =
     follow_turn tell n rules at s (e ++ more) true (holds at e more is short)
     ∙ ap (λ z. gone_on tell n rules at s (e ++ more) (step rules s z)) (head_taken e more is) ∙ ap (λ z. gone_on tell n rules at s (e ++ more) z) h
 
-follow_one : {A : Type 0} (tell : State → ℕ → Option Why → A) (n : ℕ) (rules : Rules) (at : ℕ) (s next : State) (e more : List ℕ) → IsEvent e → at + length e ≤ last_place → step rules s e ≡ Ok next →
+follow_one : {M : Type 0} {A : Type 0} (tell : State M → ℕ → Option Why → A) (n : ℕ) (rules : Rules M) (at : ℕ) (s next : State M) (e more : List ℕ) → IsEvent e → at + length e ≤ last_place → step rules s e ≡ Ok next →
     follow_with tell (suc n) rules at s (e ++ more) ≡ follow_with tell n rules (at + length e) next more
 follow_one tell n rules at s next e more is short h =
     follow_event tell n rules at s e more (Ok next) is short h
@@ -45,7 +45,7 @@ follow_one tell n rules at s next e more is short h =
     ∙ ap (λ z. follow_with tell n rules (at + length e) next z) (head_dropped e more is)
 
 -- events that are taken, are followed
-pub follow_walk : {A : Type 0} (tell : State → ℕ → Option Why → A) (n : ℕ) (rules : Rules) (at : ℕ) (s t : State) (events : List Event) (rest : List ℕ) → AllByRecursion IsEvent events → at + length (joined events) ≤ last_place →
+pub follow_walk : {M : Type 0} {A : Type 0} (tell : State M → ℕ → Option Why → A) (n : ℕ) (rules : Rules M) (at : ℕ) (s t : State M) (events : List Event) (rest : List ℕ) → AllByRecursion IsEvent events → at + length (joined events) ≤ last_place →
     walk rules s events ≡ Ok t → length (joined events ++ rest) < n →
     (m : ℕ) × (length rest < m) × (follow_with tell n rules at s (joined events ++ rest) ≡ follow_with tell m rules (at + length (joined events)) t rest)
 follow_walk tell n rules at s t [] rest a short w l =
@@ -71,7 +71,7 @@ follow_walk tell (suc n) rules at s t (e ∷ events) rest a short w l =
     )
 
 -- the reading stops where the rest is refused, or isn't whole
-pub follow_stops : {A : Type 0} (tell : State → ℕ → Option Why → A) (n : ℕ) (rules : Rules) (at : ℕ) (s : State) (rest : List ℕ) (why : Option Why) → length rest < n → Refuses rules s at rest why → follow_with tell n rules at s rest ≡ tell s at why
+pub follow_stops : {M : Type 0} {A : Type 0} (tell : State M → ℕ → Option Why → A) (n : ℕ) (rules : Rules M) (at : ℕ) (s : State M) (rest : List ℕ) (why : Option Why) → length rest < n → Refuses rules s at rest why → follow_with tell n rules at s rest ≡ tell s at why
 follow_stops tell zero rules at s rest why l r = absurd (omega arith)
 follow_stops tell (suc n) rules at s rest None l r = follow_turn tell n rules at s rest false r.0 ∙ ap (λ z. tell s at z) r.1
 follow_stops tell (suc n) rules at s rest (Some why) l (◌⊎◌.inl w) =
@@ -88,25 +88,25 @@ none_taken (suc n) = refl
 pub magic_there : (more : List ℕ) → has_magic (magic ++ more) ≡ true
 magic_there more = ap (λ z. pointwise nat_eq [] z) (none_taken (length more))
 
-log_from : (rules : Rules) (bytes : List ℕ) (right : Bool) → has_magic bytes ≡ right →
-    log_meant rules bytes ≡ (if right then follow (suc (length bytes)) rules 4 front (drop 4 bytes) else log_of front 0 (Some BadMagic))
+log_from : {M : Type 0} (rules : Rules M) (bytes : List ℕ) (right : Bool) → has_magic bytes ≡ right →
+    log_meant rules bytes ≡ (if right then follow (suc (length bytes)) rules 4 front (drop 4 bytes) else log_unread (Some BadMagic))
 unfolding log_meant
-log_from rules bytes right h = ap (λ b. if b then follow (suc (length bytes)) rules 4 front (drop 4 bytes) else log_of front 0 (Some BadMagic)) h
+log_from rules bytes right h = ap (λ b. if b then follow (suc (length bytes)) rules 4 front (drop 4 bytes) else log_unread (Some BadMagic)) h
 
 -- what the log is behind events that begin it
-pub log_behind : (rules : Rules) (bytes : List ℕ) (events : List Event) (rest : List ℕ) (s : State) → IsCut bytes events rest → Begins rules events s →
+pub log_behind : {M : Type 0} (rules : Rules M) (bytes : List ℕ) (events : List Event) (rest : List ℕ) (s : State M) → IsCut bytes events rest → Begins rules events s →
     (m : ℕ) × (length rest < m) × (log_meant rules bytes ≡ follow m rules (4 + length (joined events)) s rest)
 log_behind rules bytes events rest s c b =
     let n = suc (length (magic ++ (joined events ++ rest))) in
     let k = follow_walk log_of n rules 4 front s events rest c.whole c.short (complete rules events s b) (omega arith) in
     (k.0, k.1, ap (λ z. log_meant rules z) c.are ∙ log_from rules (magic ++ (joined events ++ rest)) true (magic_there (joined events ++ rest)) ∙ k.2)
 
-only_parts : (rules : Rules) (bytes : List ℕ) (log : Log) → Parts rules bytes log → log ≡ log_meant rules bytes
+only_parts : {M : Type 0} (rules : Rules M) (bytes : List ℕ) (log : Log) → Parts rules bytes log → log ≡ log_meant rules bytes
 only_parts rules bytes log p =
     let k = log_behind rules bytes p.events p.rest p.state p.cut p.begins in
     p.is ∙ sym (k.2 ∙ follow_stops log_of k.0 rules (4 + length (joined p.events)) p.state p.rest p.why k.1 p.refused)
 
-pub only : (rules : Rules) (bytes : List ℕ) (log : Log) → Means rules bytes log → log ≡ log_meant rules bytes
+pub only : {M : Type 0} (rules : Rules M) (bytes : List ℕ) (log : Log) → Means rules bytes log → log ≡ log_meant rules bytes
 only rules bytes log (◌⊎◌.inl parts) = only_parts rules bytes log parts
 only rules bytes log (◌⊎◌.inr (◌⊎◌.inl short)) =
     let all : take 4 bytes ≡ bytes = take_all 4 bytes (omega (arith, short.0)) in
@@ -114,5 +114,5 @@ only rules bytes log (◌⊎◌.inr (◌⊎◌.inl short)) =
     short.2 ∙ sym (log_from rules bytes true right ∙ short_magic rules bytes right short.0)
 only rules bytes log (◌⊎◌.inr (◌⊎◌.inr none)) = none.1 ∙ sym (log_from rules bytes false none.0)
 
-pub means_by_productions : (rules : Rules) (bytes : List ℕ) → MeansByProductions rules bytes
+pub means_by_productions : {M : Type 0} (rules : Rules M) (bytes : List ℕ) → MeansByProductions rules bytes
 means_by_productions rules bytes = record { means = means rules bytes; only = only rules bytes }

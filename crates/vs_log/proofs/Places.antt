@@ -11,8 +11,8 @@ use Rattle.vs_gtid.specs.Positions.{Position, has}
 use Rattle.vs_gtid.specs.Joins.{added}
 use Rattle.vs_gtid.proofs.JoinLemmas.{has-added, or_turn}
 use Rattle.vs_log.specs.declared.event.Sort.TheVariants.{PassedOver, FormatEvent, PreviousEvent, GtidEvent, QueryEvent, XidEvent, MapEvent, RowsEvent}
-use Rattle.vs_log.specs.declared.state.Place.{Place}
-use Rattle.vs_log.specs.declared.state.State.{State}
+use Rattle.vs_log.specs.States.{Place}
+use Rattle.vs_log.specs.States.{State}
 use Rattle.vs_binlog.specs.Heads.{Event, length_of}
 use Rattle.vs_log.specs.Events.{magic, joined, IsEvent}
 use Rattle.vs_log.specs.Table.{Rules, named, step}
@@ -25,7 +25,7 @@ use Rattle.vs_log.proofs.Takes.{walk}
 use Rattle.vs_log.proofs.Complete.{complete}
 
 -- the GTID is known, where no PREVIOUS_GTIDS event may replace what is known
-abbrev Knows : Gtid → State → Type 0
+abbrev Knows : {M : Type 0} → Gtid → State M → Type 0
 Knows g s = (is_base_known s.place None ≡ true) × (has s.known g ≡ true)
 
 -- a set with a GTID more has what it had, and that GTID
@@ -36,7 +36,7 @@ has_it : (known : Position) (g : Gtid) → has (added known g) g ≡ true
 has_it known g = has-added known g g ∙ or_turn (has known g) (same_gtid g g) ∙ ap (λ b. b || has known g) (same_gtid-refl g)
 
 -- so it stays known
-moves_know : (rules : Rules) (s : State) (e : Event) (place : Place) (next : State) (g : Gtid) → is_base_known place None ≡ true → Knows g s → Moves rules s e place next → Knows g next
+moves_know : {M : Type 0} (rules : Rules M) (s : State M) (e : Event) (place : Place M) (next : State M) (g : Gtid) → is_base_known place None ≡ true → Knows g s → Moves rules s e place next → Knows g next
 moves_know rules s e place next g p k (formatted is) = absurd (cc)
 moves_know rules s e place next g p k (passed_between first is) = k
 moves_know rules s e place next g p k (passed_named x bytes is) = k
@@ -50,17 +50,17 @@ moves_know rules s e place next g p k (maps_on x bytes maps work more is) = (ref
 moves_know rules s e place next g p k (tells x bytes maps work counted more is t) = (refl, k.1)
 moves_know rules s e place next g p k (ends x bytes maps work end) = (refl, k.1)
 
-step_knows : (rules : Rules) (s : State) (e : Event) (next : State) (g : Gtid) → Knows g s → step rules s e ≡ Ok next → Knows g next
+step_knows : {M : Type 0} (rules : Rules M) (s : State M) (e : Event) (next : State M) (g : Gtid) → Knows g s → step rules s e ≡ Ok next → Knows g next
 step_knows rules s e next g k t = moves_know rules s e s.place next g k.0 k (step_moves rules s e next t).1
 
 -- an event that names a GTID is taken where the GTID is new, and then the GTID is known
-abbrev Names : Gtid → State → State → Type 0
+abbrev Names : {M : Type 0} → Gtid → State M → State M → Type 0
 Names g s next = (has s.known g ≡ false) × Knows g next
 
 one_gtid : (e : Event) (g x : Gtid) → IsGtid e g → IsGtid e x → x ≡ g
 one_gtid e g x is also = let h : ◌≡◌ {A = Result Gtid Why} (Ok x) (Ok g) = sym also.layout ∙ is.layout in cc
 
-moves_name : (rules : Rules) (s : State) (e : Event) (place : Place) (next : State) (g : Gtid) → IsGtid e g → Moves rules s e place next → Names g s next
+moves_name : {M : Type 0} (rules : Rules M) (s : State M) (e : Event) (place : Place M) (next : State M) (g : Gtid) → IsGtid e g → Moves rules s e place next → Names g s next
 moves_name rules s e place next g is (formatted other) = absurd (let h : GtidEvent ≡ FormatEvent = sym is.kind ∙ other.kind in cc)
 moves_name rules s e place next g is (passed_between first p) = absurd (let h : GtidEvent ≡ PassedOver = sym is.kind ∙ p in cc)
 moves_name rules s e place next g is (passed_named x bytes p) = absurd (let h : GtidEvent ≡ PassedOver = sym is.kind ∙ p in cc)
@@ -76,11 +76,11 @@ moves_name rules s e place next g is (tells x bytes maps work counted more other
 moves_name rules s e place next g is (ends x bytes maps work (◌⊎◌.inl xid)) = absurd (let h : GtidEvent ≡ XidEvent = sym is.kind ∙ xid.kind in cc)
 moves_name rules s e place next g is (ends x bytes maps work (◌⊎◌.inr says)) = absurd (let h : GtidEvent ≡ QueryEvent = sym is.kind ∙ says.kind in cc)
 
-step_names : (rules : Rules) (s : State) (e : Event) (next : State) (g : Gtid) → IsGtid e g → step rules s e ≡ Ok next → Names g s next
+step_names : {M : Type 0} (rules : Rules M) (s : State M) (e : Event) (next : State M) (g : Gtid) → IsGtid e g → step rules s e ≡ Ok next → Names g s next
 step_names rules s e next g is t = moves_name rules s e s.place next g is (step_moves rules s e next t).1
 
 -- where a GTID is known, no walk comes past an event that names it
-not_again : (rules : Rules) (s t : State) (es : List Event) (e : Event) (g : Gtid) → Knows g s → IsGtid e g → walk rules s (es ++ e ∷ []) ≡ Ok t → ⊥
+not_again : {M : Type 0} (rules : Rules M) (s t : State M) (es : List Event) (e : Event) (g : Gtid) → Knows g s → IsGtid e g → walk rules s (es ++ e ∷ []) ≡ Ok t → ⊥
 not_again rules s t [] e g k is w =
     let c = chained (step rules s e) (λ z. walk rules z []) t w in
     let h : true ≡ false = sym k.1 ∙ (step_names rules s e c.0 g is c.1).0 in
@@ -90,13 +90,13 @@ not_again rules s t (x ∷ es) e g k is w =
     not_again rules c.0 t es e g (step_knows rules s x c.0 g k c.1) is c.2
 
 -- behind an event that names the GTID, none does
-not_behind : (rules : Rules) (s u : State) (es : List Event) (e f : Event) (g : Gtid) → IsGtid e g → IsGtid f g → walk rules s (e ∷ (es ++ f ∷ [])) ≡ Ok u → ⊥
+not_behind : {M : Type 0} (rules : Rules M) (s u : State M) (es : List Event) (e f : Event) (g : Gtid) → IsGtid e g → IsGtid f g → walk rules s (e ∷ (es ++ f ∷ [])) ≡ Ok u → ⊥
 not_behind rules s u es e f g is also v =
     let c = chained (step rules s e) (λ z. walk rules z (es ++ f ∷ [])) u v in
     not_again rules c.0 u es f g (step_names rules s e c.0 g is c.1).1 also c.2
 
 -- the same bytes begin with the same whole event, and the same is left
-same_head : (e f : Event) (xs ys rest more : List ℕ) → IsEvent e → IsEvent f → (e ++ xs) ++ rest ≡ (f ++ ys) ++ more → (e ≡ f) × (xs ++ rest ≡ ys ++ more)
+pub same_head : (e f : Event) (xs ys rest more : List ℕ) → IsEvent e → IsEvent f → (e ++ xs) ++ rest ≡ (f ++ ys) ++ more → (e ≡ f) × (xs ++ rest ≡ ys ++ more)
 same_head e f xs ys rest more is also h =
     let k : e ++ (xs ++ rest) ≡ f ++ (ys ++ more) = sym (append_assoc e xs rest) ∙ h ∙ append_assoc f ys more in (
       sym (head_taken e (xs ++ rest) is) ∙ ap (λ z. take (length_of z) z) k ∙ head_taken f (ys ++ more) also,
@@ -104,7 +104,7 @@ same_head e f xs ys rest more is also h =
     )
 
 -- before events of the same bytes that name one GTID stand the same events
-same_before : (rules : Rules) (s t u : State) (xs ys : List Event) (e f : Event) (rest more : List ℕ) (g : Gtid) →
+same_before : {M : Type 0} (rules : Rules M) (s t u : State M) (xs ys : List Event) (e f : Event) (rest more : List ℕ) (g : Gtid) →
     AllByRecursion IsEvent (xs ++ e ∷ []) → AllByRecursion IsEvent (ys ++ f ∷ []) → joined (xs ++ e ∷ []) ++ rest ≡ joined (ys ++ f ∷ []) ++ more →
     IsGtid e g → IsGtid f g → walk rules s (xs ++ e ∷ []) ≡ Ok t → walk rules s (ys ++ f ∷ []) ≡ Ok u → xs ≡ ys
 same_before rules s t u [] [] e f rest more g a b h is also w v = refl
@@ -119,12 +119,12 @@ same_before rules s t u (x ∷ xs) (y ∷ ys) e f rest more g a b h is also w v 
     let v_here : walk rules s (x ∷ (ys ++ f ∷ [])) ≡ Ok u = ap (λ z. walk rules s (z ∷ (ys ++ f ∷ []))) p.0 ∙ v in
     let c = chained (step rules s x) (λ z. walk rules z (xs ++ e ∷ [])) t w in
     let d = chained (step rules s x) (λ z. walk rules z (ys ++ f ∷ [])) u v_here in
-    let same : d.0 ≡ c.0 = (let q : ◌≡◌ {A = Result State Why} (Ok d.0) (Ok c.0) = sym d.1 ∙ c.1 in cc) in
+    let same : d.0 ≡ c.0 = (let q : ◌≡◌ {A = Result (State _) Why} (Ok d.0) (Ok c.0) = sym d.1 ∙ c.1 in cc) in
     let rests : xs ≡ ys = same_before rules c.0 t u xs ys e f rest more g a.1 b.1 p.1 is also c.2 (subst (λ z. walk rules z (ys ++ f ∷ []) ≡ Ok u) same d.2) in
     ap (λ z. x ∷ z) rests ∙ ap (λ z. z ∷ ys) p.0
 
 -- so its event stands at one place
-pub one_place : (rules : Rules) (bytes : List ℕ) (g : Gtid) (at other : ℕ) → StandsAt rules bytes g at → StandsAt rules bytes g other → at ≡ other
+pub one_place : {M : Type 0} (rules : Rules M) (bytes : List ℕ) (g : Gtid) (at other : ℕ) → StandsAt rules bytes g at → StandsAt rules bytes g other → at ≡ other
 one_place rules bytes g at other a b =
     let same_bytes : joined (a.before ++ a.event ∷ []) ++ a.rest ≡ joined (b.before ++ b.event ∷ []) ++ b.rest = append_cancel_left magic _ _ (sym a.cut.are ∙ b.cut.are) in
     let same : a.before ≡ b.before =

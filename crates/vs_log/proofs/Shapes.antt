@@ -9,12 +9,11 @@ use Rattle.vs_gtid.specs.declared.Work.TheVariants.{Rows, Ddl, Other, Journal}
 use Rattle.vs_gtid.specs.declared.Entry.{Entry}
 use Rattle.vs_gtid.specs.Positions.{Position}
 use Rattle.vs_gtid.specs.Joins.{added}
-use Rattle.vs_log.specs.declared.state.Counted.{Counted}
-use Rattle.vs_log.specs.declared.state.Counted.TheVariants.{Changed, Journaled}
+use Rattle.vs_log.specs.States.{Counted}
+use Rattle.vs_log.specs.States.Counted.{Changed, Journaled}
 use Rattle.vs_binlog.specs.Heads.{Event}
 use Rattle.vs_log.specs.Table.{Rules, one_more, more_work}
 use Rattle.vs_log.specs.Productions.{is_counted, total, in_turn, is_nil, IsMiddle, IsWork, IsEntry, IsNew, AreEntries}
-use Rattle.vs_rows.specs.Tables.{Tables}
 
 pub all_more : {A : Type 0} (P : A → Type 0) (xs : List A) (x : A) → AllByRecursion P xs → P x → AllByRecursion P (xs ++ x ∷ [])
 all_more P [] x a p = (p, tt)
@@ -32,7 +31,7 @@ pub in_turn-more : (groups : List (List Event)) (group : List Event) → in_turn
 in_turn-more [] group = append-nil group
 in_turn-more (g ∷ groups) group = ap (λ z. g ++ z) (in_turn-more groups group) ∙ sym (append_assoc g (in_turn groups) group)
 
-pub entries_more : (rules : Rules) (base known : Position) (groups : List (List Event)) (entries : List Entry) (group : List Event) (e : Entry) →
+pub entries_more : {M : Type 0} (rules : Rules M) (base known : Position) (groups : List (List Event)) (entries : List Entry) (group : List Event) (e : Entry) →
     AreEntries rules base groups entries known → IsEntry rules group e → IsNew known e.gtid →
     AreEntries rules base (groups ++ group ∷ []) (entries ++ e ∷ []) (added known e.gtid)
 entries_more rules base known [] [] group e a is new = (is, subst (λ z. IsNew z e.gtid) (sym a) new, ap (λ z. added z e.gtid) a)
@@ -40,7 +39,7 @@ entries_more rules base known [] (x ∷ xs) group e a is new = elim a [ ]
 entries_more rules base known (g ∷ groups) [] group e a is new = elim a [ ]
 entries_more rules base known (g ∷ groups) (x ∷ xs) group e a is new = (a.0, a.1, entries_more rules (added base x.gtid) known groups xs group e a.2 is new)
 
-pub no_entry : (rules : Rules) (e : Entry) → IsEntry rules [] e → ⊥
+pub no_entry : {M : Type 0} (rules : Rules M) (e : Entry) → IsEntry rules [] e → ⊥
 no_entry rules e is = elim is.form [
   | ◌⊎◌.inl single ↦ let h : [] ≡ single.gtid ∷ single.query ∷ [] = single.are in cc
   | ◌⊎◌.inr one ↦ not_ended one.opened one.last one.are
@@ -57,7 +56,7 @@ pub right_nil : {A : Type 0} (xs ys : List A) → xs ++ ys ≡ [] → ys ≡ []
 right_nil [] ys h = h
 right_nil (x ∷ xs) ys h = cc
 
-pub no_entries : (rules : Rules) (base known : Position) (groups : List (List Event)) (entries : List Entry) →
+pub no_entries : {M : Type 0} (rules : Rules M) (base known : Position) (groups : List (List Event)) (entries : List Entry) →
     AreEntries rules base groups entries known → in_turn groups ≡ [] → entries ≡ []
 no_entries rules base known [] [] a h = refl
 no_entries rules base known [] (e ∷ es) a h = elim a [ ]
@@ -79,7 +78,7 @@ filter_more es e k = filter-append is_counted es (e ∷ []) ∙ ap (λ b. filter
 pub filter_same : (es : List Event) (e : Event) → is_counted e ≡ false → filter is_counted (es ++ e ∷ []) ≡ filter is_counted es
 filter_same es e k = filter-append is_counted es (e ∷ []) ∙ ap (λ b. filter is_counted es ++ (if b then e ∷ [] else [])) k ∙ append-nil (filter is_counted es)
 
-pub middle_more : (rules : Rules) (before : Tables) (middle : List Event) (counted : List Counted) (maps : Tables) (e : Event) (more : List Counted) (after : Tables) →
+pub middle_more : {M : Type 0} (rules : Rules M) (before : M) (middle : List Event) (counted : List Counted) (maps : M) (e : Event) (more : List Counted) (after : M) →
     IsMiddle rules before middle counted maps → IsMiddle rules maps (e ∷ []) more after → IsMiddle rules before (middle ++ e ∷ []) (counted ++ more) after
 middle_more rules before [] counted maps e more after m n =
     subst (λ z. IsMiddle rules before (e ∷ []) (z ++ more) after) (sym m.0) (subst (λ z. IsMiddle rules z (e ∷ []) more after) (sym m.1) n)

@@ -11,12 +11,12 @@ use Rattle.vs_gtid.specs.Positions.{Position}
 use Rattle.vs_gtid.specs.Joins.{added}
 use Rattle.vs_log.specs.declared.event.Sort.{Sort}
 use Rattle.vs_log.specs.declared.event.Sort.TheVariants.{PassedOver, PreviousEvent}
-use Rattle.vs_log.specs.declared.state.Statement.TheVariants.{Begin}
-use Rattle.vs_log.specs.declared.state.Statement.{Statement}
-use Rattle.vs_log.specs.declared.state.Counted.{Counted}
-use Rattle.vs_log.specs.declared.state.Place.{Place}
-use Rattle.vs_log.specs.declared.state.Place.TheVariants.{Front}
-use Rattle.vs_log.specs.declared.state.State.{State}
+use Rattle.vs_log.specs.declared.statement.Statement.TheVariants.{Begin}
+use Rattle.vs_log.specs.declared.statement.Statement.{Statement}
+use Rattle.vs_log.specs.States.{Counted}
+use Rattle.vs_log.specs.States.{Place}
+use Rattle.vs_log.specs.States.Place.{Front}
+use Rattle.vs_log.specs.States.{State}
 use Rattle.vs_binlog.specs.Heads.{Event, time_of, length_of, body_of}
 use Rattle.vs_log.specs.Events.{sort_of, limit}
 use Rattle.vs_log.specs.Table.{Rules, single_work, size, sum_with, bytes_with, ended, with_base, named, step}
@@ -25,10 +25,9 @@ use Rattle.vs_log.specs.Productions.{counts, is_counted, total, in_turn, is_nil,
 use Rattle.vs_log.proofs.Moves.{Moves, inside, step_moves}
 use Rattle.vs_log.proofs.Moves.Moves.{formatted, passed_between, passed_named, passed_inside, based, names, singles, begins, saves, maps_on, tells, ends}
 use Rattle.vs_log.proofs.Shapes.{all_more, total-append, in_turn-more, entries_more, left_nil, right_nil, no_entries, nil_from, is_nil-more, filter_more, filter_same, middle_more, work_more}
-use Rattle.vs_rows.specs.Tables.{Tables}
 
 -- the log with an event more, whose parts are these
-grown : (rules : Rules) (events : List Event) (base base' : Position) (entries entries' : List Entry) (known known' : Position) (opened opened' previous : List Event) (groups : List (List Event)) (e : Event) →
+grown : {M : Type 0} (rules : Rules M) (events : List Event) (base base' : Position) (entries entries' : List Entry) (known known' : Position) (opened opened' previous : List Event) (groups : List (List Event)) (e : Event) →
     (l : IsLog rules events base entries known opened) → length_of e ≤ limit → filter is_counted (l.after ++ e ∷ []) ≡ previous ++ (in_turn groups ++ opened') →
     IsBase rules previous base' → AreEntries rules base' groups entries' known' → IsLog rules (events ++ e ∷ []) base' entries' known' opened'
 grown rules events base base' entries entries' known known' opened opened' previous groups e l fits parts b a = record {
@@ -62,18 +61,18 @@ regroup : (a b c d : List Event) → (a ++ (b ++ c)) ++ d ≡ a ++ (b ++ (c ++ d
 regroup a b c d = append_assoc a (b ++ c) d ∙ ap (λ z. a ++ z) (append_assoc b c d)
 
 -- the open events with one more
-parts_more : (rules : Rules) (events : List Event) (base : Position) (entries : List Entry) (known : Position) (opened : List Event) (e : Event) →
+parts_more : {M : Type 0} (rules : Rules M) (events : List Event) (base : Position) (entries : List Entry) (known : Position) (opened : List Event) (e : Event) →
     (l : IsLog rules events base entries known opened) → is_counted e ≡ true → filter is_counted (l.after ++ e ∷ []) ≡ l.previous ++ (in_turn l.groups ++ (opened ++ e ∷ []))
 parts_more rules events base entries known opened e l k =
     filter_more l.after e k ∙ ap (λ z. z ++ e ∷ []) l.parts ∙ regroup l.previous (in_turn l.groups) opened (e ∷ [])
 
-opened_more : (rules : Rules) (events : List Event) (base : Position) (entries : List Entry) (known : Position) (opened : List Event) (e : Event) →
+opened_more : {M : Type 0} (rules : Rules M) (events : List Event) (base : Position) (entries : List Entry) (known : Position) (opened : List Event) (e : Event) →
     IsLog rules events base entries known opened → length_of e ≤ limit → is_counted e ≡ true → IsLog rules (events ++ e ∷ []) base entries known (opened ++ e ∷ [])
 opened_more rules events base entries known opened e l fits k =
     grown rules events base base entries entries known known opened (opened ++ e ∷ []) l.previous l.groups e l fits (parts_more rules events base entries known opened e l k) l.is_base l.are_entries
 
 -- the open events with the last of an entry
-closed_more : (rules : Rules) (events : List Event) (base : Position) (entries : List Entry) (known : Position) (opened : List Event) (e : Event) (x : Entry) →
+closed_more : {M : Type 0} (rules : Rules M) (events : List Event) (base : Position) (entries : List Entry) (known : Position) (opened : List Event) (e : Event) (x : Entry) →
     IsLog rules events base entries known opened → length_of e ≤ limit → is_counted e ≡ true → IsEntry rules (opened ++ e ∷ []) x → IsNew known x.gtid →
     IsLog rules (events ++ e ∷ []) base (entries ++ x ∷ []) (added known x.gtid) []
 closed_more rules events base entries known opened e x l fits k is new =
@@ -82,7 +81,7 @@ closed_more rules events base entries known opened e x l fits k is new =
     ∙ ap (λ z. l.previous ++ z) (sym (in_turn-more l.groups (opened ++ e ∷ [])) ∙ sym (append-nil (in_turn (l.groups ++ (opened ++ e ∷ []) ∷ [])))))
     l.is_base (entries_more rules base known l.groups entries (opened ++ e ∷ []) x l.are_entries is new)
 
-passed_more : (rules : Rules) (events : List Event) (s : State) (e : Event) → Stands rules events s → length_of e ≤ limit → sort_of e ≡ PassedOver → Stands rules (events ++ e ∷ []) s
+passed_more : {M : Type 0} (rules : Rules M) (events : List Event) (s : State M) (e : Event) → Stands rules events s → length_of e ≤ limit → sort_of e ≡ PassedOver → Stands rules (events ++ e ∷ []) s
 passed_more rules events s e st fits k =
     let l = st.log in
     let none : is_counted e ≡ false = ap counts k in
@@ -98,7 +97,7 @@ total_more : (opened : List Event) (e : Event) (bytes : ℕ) → bytes ≡ total
 total_more opened e bytes b = omega (arith, total-append opened (e ∷ []))
 
 -- behind an event that leaves a transaction open
-inside_more : (rules : Rules) (events : List Event) (s : State) (e : Event) (g : Gtid) (bytes : ℕ) (maps : Tables) (work : Work) (known : Position) (opened : List Event) →
+inside_more : {M : Type 0} (rules : Rules M) (events : List Event) (s : State M) (e : Event) (g : Gtid) (bytes : ℕ) (maps : M) (work : Work) (known : Position) (opened : List Event) →
     IsLog rules events s.base s.entries known opened → length_of e ≤ limit → is_counted e ≡ true → bytes + length_of e ≤ limit →
     bytes ≡ total opened → s.known ≡ added known g → IsNew known g → IsUnended rules (opened ++ e ∷ []) g maps work → Stands rules (events ++ e ∷ []) (inside s e g bytes maps work)
 inside_more rules events s e g bytes maps work known opened l fits k small b same new is = record {
@@ -110,7 +109,7 @@ inside_more rules events s e g bytes maps work known opened l fits k small b sam
 }
 
 -- behind an event that ends an entry
-ended_more : (rules : Rules) (events : List Event) (s : State) (e : Event) (g : Gtid) (work : Work) (known : Position) (opened : List Event) →
+ended_more : {M : Type 0} (rules : Rules M) (events : List Event) (s : State M) (e : Event) (g : Gtid) (work : Work) (known : Position) (opened : List Event) →
     IsLog rules events s.base s.entries known opened → length_of e ≤ limit → is_counted e ≡ true → s.known ≡ added known g → IsNew known g →
     IsEntry rules (opened ++ e ∷ []) (record { gtid = g; time = time_of e; work = work }) → Stands rules (events ++ e ∷ []) (ended s e g work)
 ended_more rules events s e g work known opened l fits k same new is = record {
@@ -121,7 +120,7 @@ ended_more rules events s e g work known opened l fits k same new is = record {
   first = not_first events l.after l.format e l.are k;
 }
 
-unended_more : (rules : Rules) (opened : List Event) (g : Gtid) (maps after : Tables) (work next : Work) (e : Event) (more : List Counted) →
+unended_more : {M : Type 0} (rules : Rules M) (opened : List Event) (g : Gtid) (maps after : M) (work next : Work) (e : Event) (more : List Counted) →
     (u : IsUnended rules opened g maps work) → IsMiddle rules maps (e ∷ []) more after → IsWork (u.counted ++ more) next → IsUnended rules (opened ++ e ∷ []) g after next
 unended_more rules opened g maps after work next e more u m w = record {
   gtid = u.gtid;
@@ -131,14 +130,14 @@ unended_more rules opened g maps after work next e more u m w = record {
   names = u.names;
   begins = u.begins;
   counted = u.counted ++ more;
-  tells = middle_more rules [] u.middle u.counted maps e more after u.tells m;
+  tells = middle_more rules rules.no_tables u.middle u.counted maps e more after u.tells m;
   comes = w;
 }
 
 same_work : (counted : List Counted) (work : Work) → IsWork counted work → IsWork (counted ++ []) work
 same_work counted work w = subst (λ z. IsWork z work) (sym (append-nil counted)) w
 
-based_more : (rules : Rules) (events : List Event) (s : State) (e : Event) (set known : Position) (opened : List Event) →
+based_more : {M : Type 0} (rules : Rules M) (events : List Event) (s : State M) (e : Event) (set known : Position) (opened : List Event) →
     IsLog rules events s.base s.entries known opened → true ≡ is_nil (filter is_counted (drop 1 events)) → length_of e ≤ limit →
     sort_of e ≡ PreviousEvent → rules.block (body_of e) ≡ Ok set → Stands rules (events ++ e ∷ []) (with_base s set)
 based_more rules events s e set known opened l first fits k r =
@@ -155,7 +154,7 @@ based_more rules events s e set known opened l first fits k r =
       first = not_first events l.after l.format e l.are counted;
     }
 
-named_more : (rules : Rules) (events : List Event) (s : State) (e : Event) (g : Gtid) (known : Position) (opened : List Event) →
+named_more : {M : Type 0} (rules : Rules M) (events : List Event) (s : State M) (e : Event) (g : Gtid) (known : Position) (opened : List Event) →
     IsLog rules events s.base s.entries known opened → opened ≡ [] → s.known ≡ known → length_of e ≤ limit →
     IsGtid e g → IsNew s.known g → Stands rules (events ++ e ∷ []) (named s e g)
 named_more rules events s e g known opened l none same fits is new =
@@ -169,21 +168,21 @@ named_more rules events s e g known opened l none same fits is new =
     }
 
 -- an entry of a GTID event and a query
-single_entry : (rules : Rules) (opened : List Event) (e : Event) (g : Gtid) (statement : Statement) (work : Work) → IsNamed rules opened g →
+single_entry : {M : Type 0} (rules : Rules M) (opened : List Event) (e : Event) (g : Gtid) (statement : Statement) (work : Work) → IsNamed rules opened g →
     Says rules e statement → single_work statement ≡ Some work → total (opened ++ e ∷ []) ≤ limit → IsEntry rules (opened ++ e ∷ []) (record { gtid = g; time = time_of e; work = work })
 single_entry rules opened e g statement work n says single small = record {
   form = ◌⊎◌.inl (record { gtid = n.gtid; query = e; are = ap (λ z. z ++ e ∷ []) n.are; names = n.names; statement = statement; says = says; work = single; time = refl });
   size = small;
 }
 
-transaction_entry : (rules : Rules) (opened : List Event) (e : Event) (g : Gtid) (maps : Tables) (work : Work) → IsUnended rules opened g maps work →
+transaction_entry : {M : Type 0} (rules : Rules M) (opened : List Event) (e : Event) (g : Gtid) (maps : M) (work : Work) → IsUnended rules opened g maps work →
     Ends rules e → total (opened ++ e ∷ []) ≤ limit → IsEntry rules (opened ++ e ∷ []) (record { gtid = g; time = time_of e; work = work })
 transaction_entry rules opened e g maps work u end small = record {
   form = ◌⊎◌.inr (record { opened = opened; last = e; are = refl; maps = maps; begun = u; ends = end; time = refl });
   size = small;
 }
 
-begun_unended : (rules : Rules) (opened : List Event) (e : Event) (g : Gtid) → IsNamed rules opened g → Says rules e Begin → IsUnended rules (opened ++ e ∷ []) g [] (Rows [])
+begun_unended : {M : Type 0} (rules : Rules M) (opened : List Event) (e : Event) (g : Gtid) → IsNamed rules opened g → Says rules e Begin → IsUnended rules (opened ++ e ∷ []) g rules.no_tables (Rows [])
 begun_unended rules opened e g n says = record {
   gtid = n.gtid;
   begin = e;
@@ -196,20 +195,20 @@ begun_unended rules opened e g n says = record {
   comes = refl;
 }
 
-ends_count : (rules : Rules) (e : Event) → Ends rules e → is_counted e ≡ true
+ends_count : {M : Type 0} (rules : Rules M) (e : Event) → Ends rules e → is_counted e ≡ true
 ends_count rules e (◌⊎◌.inl x) = ap counts x.kind
 ends_count rules e (◌⊎◌.inr q) = ap counts q.kind
 
 -- the sum of an event that counts
-summed : (place : Place) (sort : Sort) (n most : ℕ) → counts sort ≡ true → sum_with place sort n ≤ most → size place + n ≤ most
+summed : {M : Type 0} (place : Place M) (sort : Sort) (n most : ℕ) → counts sort ≡ true → sum_with place sort n ≤ most → size place + n ≤ most
 summed place PassedOver n most k h = cc
 summed place sort n most k h = h
 
-length_within : (place : Place) (sort : Sort) (n most : ℕ) → sum_with place sort n ≤ most → n ≤ most
+length_within : {M : Type 0} (place : Place M) (sort : Sort) (n most : ℕ) → sum_with place sort n ≤ most → n ≤ most
 length_within place PassedOver n most h = h
 length_within place sort n most h = let k : size place + n ≤ most = h in omega arith
 
-sound_move : (rules : Rules) (events : List Event) (s : State) (e : Event) (place : Place) (next : State) (known : Position) (opened : List Event) → Stands rules events s →
+sound_move : {M : Type 0} (rules : Rules M) (events : List Event) (s : State M) (e : Event) (place : Place M) (next : State M) (known : Position) (opened : List Event) → Stands rules events s →
     IsLog rules events s.base s.entries known opened → IsBegun rules known opened s place → is_first place ≡ is_nil (filter is_counted (drop 1 events)) →
     length_of e ≤ limit → (counts (sort_of e) ≡ true → size place + length_of e ≤ limit) → Moves rules s e place next → Stands rules (events ++ e ∷ []) next
 sound_move rules events s e place next known opened st l b first fits small (formatted is) = elim b [ ]
@@ -224,7 +223,7 @@ sound_move rules events s e place next known opened st l b first fits small (sin
     (single_entry rules opened e g statement work b.0 says one (subst (λ z. z ≤ limit) (total_more opened e bytes b.3) (small k)))
 sound_move rules events s e place next known opened st l b first fits small (begins g bytes says) =
     let k : is_counted e ≡ true = ap counts says.kind in
-    inside_more rules events s e g bytes [] (Rows []) known opened l fits k (small k) b.3 b.2 b.1 (begun_unended rules opened e g b.0 says)
+    inside_more rules events s e g bytes rules.no_tables (Rows []) known opened l fits k (small k) b.3 b.2 b.1 (begun_unended rules opened e g b.0 says)
 sound_move rules events s e place next known opened st l b first fits small (saves g bytes maps work says) =
     let k : is_counted e ≡ true = ap counts says.kind in
     inside_more rules events s e g bytes maps work known opened l fits k (small k) b.3 b.2 b.1
@@ -243,7 +242,7 @@ sound_move rules events s e place next known opened st l b first fits small (end
     (transaction_entry rules opened e g maps work b.0 end (subst (λ z. z ≤ limit) (total_more opened e bytes b.3) (small k)))
 
 -- a log's first event
-sound_first : (rules : Rules) (base known : Position) (entries : List Entry) (next : State) (e : Event) → base ≡ [] → known ≡ [] → entries ≡ [] → length_of e ≤ limit →
+sound_first : {M : Type 0} (rules : Rules M) (base known : Position) (entries : List Entry) (next : State M) (e : Event) → base ≡ [] → known ≡ [] → entries ≡ [] → length_of e ≤ limit →
     Moves rules (record { base = base; entries = entries; known = known; place = Front }) e Front next → Stands rules (e ∷ []) next
 sound_first rules base known entries next e b n es fits (formatted is) = record {
   known = base;
@@ -265,11 +264,11 @@ sound_first rules base known entries next e b n es fits (formatted is) = record 
 }
 
 -- what is taken goes on with the beginning of a log
-pub sound_step : (rules : Rules) (events : List Event) (s next : State) (e : Event) → Begins rules events s → step rules s e ≡ Ok next → Begins rules (events ++ e ∷ []) next
+pub sound_step : {M : Type 0} (rules : Rules M) (events : List Event) (s next : State M) (e : Event) → Begins rules events s → step rules s e ≡ Ok next → Begins rules (events ++ e ∷ []) next
 unfolding bytes_with
-sound_step rules [] s next e b h =
+sound_step {M} rules [] s next e b h =
     let m = step_moves rules front e next (subst (λ z. step rules z e ≡ Ok next) b h) in
-    sound_first rules [] [] [] next e refl refl refl (length_within Front (sort_of e) (length_of e) limit m.0) m.1
+    sound_first rules [] [] [] next e refl refl refl (length_within {M = M} Front (sort_of e) (length_of e) limit m.0) m.1
 sound_step rules (f ∷ events) s next e b h =
     let m = step_moves rules s e next h in
     sound_move rules (f ∷ events) s e s.place next b.known b.opened b b.log b.begun b.first (length_within s.place (sort_of e) (length_of e) limit m.0) (λ k. summed s.place (sort_of e) (length_of e) limit k m.0) m.1

@@ -11,11 +11,11 @@ use Rattle.vs_gtid.specs.Positions.{Position, has}
 use Rattle.vs_gtid.specs.Joins.{added}
 use Rattle.vs_log.specs.declared.event.Sort.{Sort}
 use Rattle.vs_log.specs.declared.event.Sort.TheVariants.{PassedOver}
-use Rattle.vs_log.specs.declared.state.Statement.{Statement}
-use Rattle.vs_log.specs.declared.state.Statement.TheVariants.{Begin, Commit, Savepoint, Xa, Single}
-use Rattle.vs_log.specs.declared.state.Place.{Place}
-use Rattle.vs_log.specs.declared.state.Place.TheVariants.{Front, Between, Named, Inside}
-use Rattle.vs_log.specs.declared.state.State.{State}
+use Rattle.vs_log.specs.declared.statement.Statement.{Statement}
+use Rattle.vs_log.specs.declared.statement.Statement.TheVariants.{Begin, Commit, Savepoint, Xa, Single}
+use Rattle.vs_log.specs.States.{Place}
+use Rattle.vs_log.specs.States.Place.{Front, Between, Named, Inside}
+use Rattle.vs_log.specs.States.{State}
 use Rattle.vs_binlog.specs.Heads.{Event, length_of, body_of}
 use Rattle.vs_log.specs.Events.{sort_of, limit}
 use Rattle.vs_log.specs.Table.{Rules, ◌>>=◌, unless, gtid_in, single_work, more_work, size, sum_with, bytes_with, ended, with_base, new_gtid, named, first_query, later_query, told, line, step}
@@ -24,7 +24,7 @@ use Rattle.vs_log.proofs.Moves.{Moves, chained, step_moves}
 use Rattle.vs_log.proofs.Moves.Moves.{formatted, passed_between, passed_named, passed_inside, based, names, singles, begins, saves, maps_on, tells, ends}
 
 -- the state to which events lead
-abbrev pub walk : Rules → State → List Event → Result State Why
+abbrev pub walk : {M : Type 0} → Rules M → State M → List Event → Result (State M) Why
 walk rules s [] = Ok s
 walk rules s (e ∷ es) = step rules s e >>= λ next. walk rules next es
 
@@ -34,17 +34,17 @@ new_gtid-takes known body g h new =
     ∙ ap (λ b. if b then Err (RepeatedGtid g) else if nat_lt 1024 (length (added known g)) then Err TooManyIntervals else Ok g) new.lacks
     ∙ ap (λ b. if b then Err TooManyIntervals else Ok g) (le-ltb 1024 (length (added known g)) new.few)
 
-query_line : (rules : Rules) (s : State) (e : Event) (statement : Statement) (f : Statement → Result State Why) → rules.statement (body_of e) ≡ Ok statement → (rules.statement (body_of e) >>= f) ≡ f statement
+query_line : {M : Type 0} (rules : Rules M) (s : State M) (e : Event) (statement : Statement) (f : Statement → Result (State M) Why) → rules.statement (body_of e) ≡ Ok statement → (rules.statement (body_of e) >>= f) ≡ f statement
 query_line rules s e statement f h = ap (λ r. r >>= f) h
 
-single_line : (s : State) (e : Event) (g : Gtid) (bytes : ℕ) (statement : Statement) (work : Work) → single_work statement ≡ Some work → first_query s e g bytes statement ≡ Ok (ended s e g work)
-single_line s e g bytes Begin work h = absurd (cc)
-single_line s e g bytes Xa work h = absurd (cc)
-single_line s e g bytes Commit work h = ap (λ o. elim o [ None ↦ first_query s e g bytes Commit | Some w ↦ Ok (ended s e g w) ]) h
-single_line s e g bytes Savepoint work h = ap (λ o. elim o [ None ↦ first_query s e g bytes Savepoint | Some w ↦ Ok (ended s e g w) ]) h
-single_line s e g bytes (Single one) work h = ap (λ o. elim o [ None ↦ first_query s e g bytes (Single one) | Some w ↦ Ok (ended s e g w) ]) h
+single_line : {M : Type 0} (none : M) (s : State M) (e : Event) (g : Gtid) (bytes : ℕ) (statement : Statement) (work : Work) → single_work statement ≡ Some work → first_query none s e g bytes statement ≡ Ok (ended s e g work)
+single_line none s e g bytes Begin work h = absurd (cc)
+single_line none s e g bytes Xa work h = absurd (cc)
+single_line none s e g bytes Commit work h = ap (λ o. elim o [ None ↦ first_query none s e g bytes Commit | Some w ↦ Ok (ended s e g w) ]) h
+single_line none s e g bytes Savepoint work h = ap (λ o. elim o [ None ↦ first_query none s e g bytes Savepoint | Some w ↦ Ok (ended s e g w) ]) h
+single_line none s e g bytes (Single one) work h = ap (λ o. elim o [ None ↦ first_query none s e g bytes (Single one) | Some w ↦ Ok (ended s e g w) ]) h
 
-line_takes : (rules : Rules) (s : State) (e : Event) (place : Place) (next : State) → Moves rules s e place next → line rules s e place (sort_of e) ≡ Ok next
+line_takes : {M : Type 0} (rules : Rules M) (s : State M) (e : Event) (place : Place M) (next : State M) → Moves rules s e place next → line rules s e place (sort_of e) ≡ Ok next
 line_takes rules s e place next (formatted is) =
     ap (λ k. line rules s e Front k) is.kind ∙ ap (λ r. unless r (record s { place = Between true })) is.layout
 line_takes rules s e place next (passed_between first k) = ap (λ z. line rules s e (Between first) z) k
@@ -54,9 +54,9 @@ line_takes rules s e place next (based set k r) = ap (λ z. line rules s e (Betw
 line_takes rules s e place next (names first g is new) =
     ap (λ z. line rules s e (Between first) z) is.kind ∙ ap (λ z. z >>= λ x. Ok (named s e x)) (new_gtid-takes s.known (body_of e) g is.layout new)
 line_takes rules s e place next (singles g bytes statement work says one) =
-    ap (λ z. line rules s e (Named g bytes) z) says.kind ∙ query_line rules s e statement (first_query s e g bytes) says.layout ∙ single_line s e g bytes statement work one
+    ap (λ z. line rules s e (Named g bytes) z) says.kind ∙ query_line rules s e statement (first_query rules.no_tables s e g bytes) says.layout ∙ single_line rules.no_tables s e g bytes statement work one
 line_takes rules s e place next (begins g bytes says) =
-    ap (λ z. line rules s e (Named g bytes) z) says.kind ∙ query_line rules s e Begin (first_query s e g bytes) says.layout
+    ap (λ z. line rules s e (Named g bytes) z) says.kind ∙ query_line rules s e Begin (first_query rules.no_tables s e g bytes) says.layout
 line_takes rules s e place next (saves g bytes maps work says) =
     ap (λ z. line rules s e (Inside g bytes maps work) z) says.kind ∙ query_line rules s e Savepoint (later_query s e g bytes maps work) says.layout
 line_takes rules s e place next (maps_on g bytes maps work more is) =
@@ -72,34 +72,34 @@ line_takes rules s e place next (ends g bytes maps work (◌⊎◌.inr says)) =
     ap (λ z. line rules s e (Inside g bytes maps work) z) says.kind ∙ query_line rules s e Commit (later_query s e g bytes maps work) says.layout
 
 -- the table takes what a line of it allows
-pub takes : (rules : Rules) (s : State) (e : Event) (next : State) → bytes_with s.place e ≤ limit → Moves rules s e s.place next → step rules s e ≡ Ok next
+pub takes : {M : Type 0} (rules : Rules M) (s : State M) (e : Event) (next : State M) → bytes_with s.place e ≤ limit → Moves rules s e s.place next → step rules s e ≡ Ok next
 unfolding step
 takes rules s e next fits m =
     ap (λ b. if b then Err (TooLarge (bytes_with s.place e)) else line rules s e s.place (sort_of e)) (le-ltb limit (bytes_with s.place e) fits) ∙ line_takes rules s e s.place next m
 
-sum_fits : (place : Place) (sort : Sort) (n most : ℕ) → size place + n ≤ most → sum_with place sort n ≤ most
+sum_fits : {M : Type 0} (place : Place M) (sort : Sort) (n most : ℕ) → size place + n ≤ most → sum_with place sort n ≤ most
 sum_fits place PassedOver n most h = omega arith
 sum_fits place sort n most h = h
 
-pub takes_counted : (rules : Rules) (s : State) (e : Event) (next : State) → size s.place + length_of e ≤ limit → Moves rules s e s.place next → step rules s e ≡ Ok next
+pub takes_counted : {M : Type 0} (rules : Rules M) (s : State M) (e : Event) (next : State M) → size s.place + length_of e ≤ limit → Moves rules s e s.place next → step rules s e ≡ Ok next
 unfolding bytes_with
 takes_counted rules s e next fits m = takes rules s e next (sum_fits s.place (sort_of e) (length_of e) limit fits) m
 
-pub walk_one : (rules : Rules) (s next : State) (e : Event) (es : List Event) → step rules s e ≡ Ok next → walk rules s (e ∷ es) ≡ walk rules next es
+pub walk_one : {M : Type 0} (rules : Rules M) (s next : State M) (e : Event) (es : List Event) → step rules s e ≡ Ok next → walk rules s (e ∷ es) ≡ walk rules next es
 walk_one rules s next e es h = ap (λ r. r >>= λ x. walk rules x es) h
 
-pub walk-append : (rules : Rules) (s t : State) (xs ys : List Event) → walk rules s xs ≡ Ok t → walk rules s (xs ++ ys) ≡ walk rules t ys
+pub walk-append : {M : Type 0} (rules : Rules M) (s t : State M) (xs ys : List Event) → walk rules s xs ≡ Ok t → walk rules s (xs ++ ys) ≡ walk rules t ys
 walk-append rules s t [] ys h = ap (λ z. walk rules z ys) (let p : s ≡ t = cc in p)
 walk-append rules s t (x ∷ xs) ys h =
     let c = chained (step rules s x) (λ z. walk rules z xs) t h in
     walk_one rules s c.0 x (xs ++ ys) c.1 ∙ walk-append rules c.0 t xs ys c.2
 
 -- behind the format description
-abbrev is_behind : Place → Bool
+abbrev is_behind : {M : Type 0} → Place M → Bool
 is_behind Front = false
 is_behind place = true
 
-moves_behind : (rules : Rules) (s : State) (e : Event) (place : Place) (next : State) → is_behind s.place ≡ true → Moves rules s e place next → is_behind next.place ≡ true
+moves_behind : {M : Type 0} (rules : Rules M) (s : State M) (e : Event) (place : Place M) (next : State M) → is_behind s.place ≡ true → Moves rules s e place next → is_behind next.place ≡ true
 moves_behind rules s e place next b (formatted is) = refl
 moves_behind rules s e place next b (passed_between first k) = b
 moves_behind rules s e place next b (passed_named g bytes k) = b
@@ -113,7 +113,7 @@ moves_behind rules s e place next b (maps_on g bytes maps work more is) = refl
 moves_behind rules s e place next b (tells g bytes maps work counted more is t) = refl
 moves_behind rules s e place next b (ends g bytes maps work end) = refl
 
-passes : (rules : Rules) (s : State) (e : Event) (place : Place) → is_behind place ≡ true → sort_of e ≡ PassedOver → Moves rules s e place s
+passes : {M : Type 0} (rules : Rules M) (s : State M) (e : Event) (place : Place M) → is_behind place ≡ true → sort_of e ≡ PassedOver → Moves rules s e place s
 passes rules s e Front b k = absurd (cc)
 passes rules s e (Between first) b k = passed_between first k
 passes rules s e (Named g bytes) b k = passed_named g bytes k
@@ -123,19 +123,19 @@ uncounted : (sort : Sort) → counts sort ≡ false → sort ≡ PassedOver
 uncounted PassedOver h = refl
 uncounted sort h = absurd (cc)
 
-passed_step : (rules : Rules) (s : State) (e : Event) → is_behind s.place ≡ true → is_counted e ≡ false → length_of e ≤ limit → step rules s e ≡ Ok s
+passed_step : {M : Type 0} (rules : Rules M) (s : State M) (e : Event) → is_behind s.place ≡ true → is_counted e ≡ false → length_of e ≤ limit → step rules s e ≡ Ok s
 unfolding bytes_with
 passed_step rules s e b k fits =
     let p : sort_of e ≡ PassedOver = uncounted (sort_of e) k in
     takes rules s e s (subst (λ z. sum_with s.place z (length_of e) ≤ limit) (sym p) fits) (passes rules s e s.place b p)
 
 -- what is passed over changes nothing
-pub filter_walk : (rules : Rules) (s t : State) (es : List Event) → is_behind s.place ≡ true → AllByRecursion (λ e. length_of e ≤ limit) es →
+pub filter_walk : {M : Type 0} (rules : Rules M) (s t : State M) (es : List Event) → is_behind s.place ≡ true → AllByRecursion (λ e. length_of e ≤ limit) es →
     walk rules s (filter is_counted es) ≡ Ok t → walk rules s es ≡ Ok t
 filter_walk rules s t [] b fits h = h
 filter_walk rules s t (e ∷ es) b fits h = go (is_counted e) refl h (λ next bn. filter_walk rules next t es bn fits.1) where
   go : (kept : Bool) → is_counted e ≡ kept → walk rules s (if kept then e ∷ filter is_counted es else filter is_counted es) ≡ Ok t →
-      ((next : State) → is_behind next.place ≡ true → walk rules next (filter is_counted es) ≡ Ok t → walk rules next es ≡ Ok t) → walk rules s (e ∷ es) ≡ Ok t
+      ((next : State _) → is_behind next.place ≡ true → walk rules next (filter is_counted es) ≡ Ok t → walk rules next es ≡ Ok t) → walk rules s (e ∷ es) ≡ Ok t
   go true k w rest =
       let c = chained (step rules s e) (λ z. walk rules z (filter is_counted es)) t w in
       walk_one rules s c.0 e es c.1 ∙ rest c.0 (moves_behind rules s e s.place c.0 b (step_moves rules s e c.0 c.1).1) c.2

@@ -1,6 +1,7 @@
 pub mod Events
+pub mod States
 pub mod Table
-pub mod Queries
 pub mod Meaning
 pub mod Productions
+pub mod Steps
 pub mod Laws

@@ -12,18 +12,17 @@ use Rattle.vs_gtid.specs.Positions.{Position, has}
 use Rattle.vs_gtid.specs.Joins.{added}
 use Rattle.vs_log.specs.declared.event.Sort.{Sort}
 use Rattle.vs_log.specs.declared.event.Sort.TheVariants.{PassedOver, FormatEvent, PreviousEvent, GtidEvent, QueryEvent, XidEvent, MapEvent, RowsEvent}
-use Rattle.vs_log.specs.declared.state.Statement.{Statement}
-use Rattle.vs_log.specs.declared.state.Statement.TheVariants.{Begin, Commit, Savepoint}
-use Rattle.vs_log.specs.declared.state.Counted.{Counted}
-use Rattle.vs_log.specs.declared.state.Counted.TheVariants.{Changed, Journaled}
-use Rattle.vs_log.specs.declared.state.Place.{Place}
-use Rattle.vs_log.specs.declared.state.Place.TheVariants.{Front, Between, Named, Inside}
-use Rattle.vs_log.specs.declared.state.State.{State}
+use Rattle.vs_log.specs.declared.statement.Statement.{Statement}
+use Rattle.vs_log.specs.declared.statement.Statement.TheVariants.{Begin, Commit, Savepoint}
+use Rattle.vs_log.specs.States.{Counted}
+use Rattle.vs_log.specs.States.Counted.{Changed, Journaled}
+use Rattle.vs_log.specs.States.{Place}
+use Rattle.vs_log.specs.States.Place.{Front, Between, Named, Inside}
+use Rattle.vs_log.specs.States.{State}
 use Rattle.vs_binlog.specs.Heads.{Event, time_of, kind_of, length_of, body_of}
-use Rattle.vs_rows.specs.Tables.{Tables}
 use Rattle.vs_log.specs.Events.{sort_of, is_held, limit, last_place, magic, joined, IsEvent}
 use Rattle.vs_log.specs.Table.{Rules, format_refusal, gtid_in, single_work, step}
-use Rattle.vs_log.specs.Meaning.{front, head_refusal, has_magic, log_of}
+use Rattle.vs_log.specs.Meaning.{front, head_refusal, has_magic, log_of, log_unread}
 
 -- events that aren't passed over
 abbrev pub counts : Sort → Bool
@@ -51,7 +50,7 @@ pub record IsGtid (e : Event) (g : Gtid) : Type 0 where
   pub kind : sort_of e ≡ GtidEvent
   pub layout : gtid_in (body_of e) ≡ Ok g
 
-pub record Says (rules : Rules) (e : Event) (statement : Statement) : Type 0 where
+pub record Says {M : Type 0} (rules : Rules M) (e : Event) (statement : Statement) : Type 0 where
   pub kind : sort_of e ≡ QueryEvent
   pub layout : rules.statement (body_of e) ≡ Ok statement
 
@@ -60,26 +59,26 @@ pub record IsXid (e : Event) : Type 0 where
   pub layout : 8 ≤ length (body_of e)
 
 -- a table map: with it these tables are known, after those known before it
-pub record IsMap (rules : Rules) (maps : Tables) (e : Event) (more : Tables) : Type 0 where
+pub record IsMap {M : Type 0} (rules : Rules M) (maps : M) (e : Event) (more : M) : Type 0 where
   pub kind : sort_of e ≡ MapEvent
   pub layout : rules.map maps (body_of e) ≡ Ok more
 
 -- a rows event, where these tables are known
-pub record Tells (rules : Rules) (maps : Tables) (e : Event) (counted : List Counted) : Type 0 where
+pub record Tells {M : Type 0} (rules : Rules M) (maps : M) (e : Event) (counted : List Counted) : Type 0 where
   pub kind : sort_of e ≡ RowsEvent
   pub layout : rules.rows maps (kind_of e) (body_of e) ≡ Ok counted
 
 -- PREVIOUS_GTIDS, at most once
-abbrev pub IsBase : Rules → List Event → Position → Type 0
+abbrev pub IsBase : {M : Type 0} → Rules M → List Event → Position → Type 0
 IsBase rules [] base = base ≡ []
 IsBase rules (e ∷ []) base = (sort_of e ≡ PreviousEvent) × (rules.block (body_of e) ≡ Ok base)
 IsBase rules (e ∷ f ∷ es) base = ⊥
 
 -- (map | rows | savepoint)*: where the tables before are known, these events tell this, and these tables are known behind them
-abbrev pub IsMiddle : Rules → Tables → List Event → List Counted → Tables → Type 0
+abbrev pub IsMiddle : {M : Type 0} → Rules M → M → List Event → List Counted → M → Type 0
 IsMiddle rules before [] counted maps = (counted ≡ []) × (before ≡ maps)
 IsMiddle rules before (e ∷ es) counted maps =
-    ((known : Tables) × IsMap rules before e known × IsMiddle rules known es counted maps)
+    ((known : _) × IsMap rules before e known × IsMiddle rules known es counted maps)
     ⊎ (((told more : List Counted) × Tells rules before e told × (counted ≡ told ++ more) × IsMiddle rules before es more maps)
     ⊎ (Says rules e Savepoint × IsMiddle rules before es counted maps))
 
@@ -90,7 +89,7 @@ IsWork counted (Journal j) = counted ≡ Journaled j ∷ []
 IsWork counted work = ⊥
 
 -- gtid query
-pub record IsSingle (rules : Rules) (events : List Event) (e : Entry) : Type 0 where
+pub record IsSingle {M : Type 0} (rules : Rules M) (events : List Event) (e : Entry) : Type 0 where
   pub gtid : Event
   pub query : Event
   pub are : events ≡ gtid ∷ query ∷ []
@@ -101,7 +100,7 @@ pub record IsSingle (rules : Rules) (events : List Event) (e : Entry) : Type 0 w
   pub time : e.time ≡ time_of query
 
 -- gtid query(BEGIN) (map | rows | savepoint)*
-pub record IsUnended (rules : Rules) (events : List Event) (g : Gtid) (maps : Tables) (work : Work) : Type 0 where
+pub record IsUnended {M : Type 0} (rules : Rules M) (events : List Event) (g : Gtid) (maps : M) (work : Work) : Type 0 where
   pub gtid : Event
   pub begin : Event
   pub middle : List Event
@@ -109,24 +108,24 @@ pub record IsUnended (rules : Rules) (events : List Event) (g : Gtid) (maps : Ta
   pub names : IsGtid gtid g
   pub begins : Says rules begin Begin
   pub counted : List Counted
-  pub tells : IsMiddle rules [] middle counted maps
+  pub tells : IsMiddle rules rules.no_tables middle counted maps
   pub comes : IsWork counted work
 
 -- xid | query(COMMIT)
-abbrev pub Ends : Rules → Event → Type 0
+abbrev pub Ends : {M : Type 0} → Rules M → Event → Type 0
 Ends rules e = IsXid e ⊎ Says rules e Commit
 
 -- gtid query(BEGIN) (map | rows | savepoint)* (xid | query(COMMIT))
-pub record IsTransaction (rules : Rules) (events : List Event) (e : Entry) : Type 0 where
+pub record IsTransaction {M : Type 0} (rules : Rules M) (events : List Event) (e : Entry) : Type 0 where
   pub opened : List Event
   pub last : Event
   pub are : events ≡ opened ++ last ∷ []
-  pub maps : Tables
+  pub maps : M
   pub begun : IsUnended rules opened e.gtid maps e.work
   pub ends : Ends rules last
   pub time : e.time ≡ time_of last
 
-pub record IsEntry (rules : Rules) (events : List Event) (e : Entry) : Type 0 where
+pub record IsEntry {M : Type 0} (rules : Rules M) (events : List Event) (e : Entry) : Type 0 where
   pub form : IsSingle rules events e ⊎ IsTransaction rules events e
   pub size : total events ≤ limit
 
@@ -136,7 +135,7 @@ pub record IsNew (known : Position) (g : Gtid) : Type 0 where
   pub few : length (added known g) ≤ 1024
 
 -- the entries that the groups of events are, behind the GTIDs known before them, and the GTIDs known behind them
-abbrev pub AreEntries : Rules → Position → List (List Event) → List Entry → Position → Type 0
+abbrev pub AreEntries : {M : Type 0} → Rules M → Position → List (List Event) → List Entry → Position → Type 0
 AreEntries rules known [] [] after = known ≡ after
 AreEntries rules known (group ∷ groups) (e ∷ es) after = IsEntry rules group e × IsNew known e.gtid × AreEntries rules (added known e.gtid) groups es after
 AreEntries rules known [] (e ∷ es) after = ⊥
@@ -144,7 +143,7 @@ AreEntries rules known (group ∷ groups) [] after = ⊥
 
 -- A format description, at most one PREVIOUS_GTIDS event, the events of entries, and some more.
 -- Events that are passed over may stand anywhere behind the first.
-pub record IsLog (rules : Rules) (events : List Event) (base : Position) (entries : List Entry) (known : Position) (opened : List Event) : Type 0 where
+pub record IsLog {M : Type 0} (rules : Rules M) (events : List Event) (base : Position) (entries : List Entry) (known : Position) (opened : List Event) : Type 0 where
   pub format : Event
   pub after : List Event
   pub are : events ≡ format ∷ after
@@ -157,20 +156,20 @@ pub record IsLog (rules : Rules) (events : List Event) (base : Position) (entrie
   pub are_entries : AreEntries rules base groups entries known
 
 -- no event, or less than an entry: nothing, gtid, or gtid query(BEGIN) (map | rows | savepoint)*
-pub record IsNamed (rules : Rules) (events : List Event) (g : Gtid) : Type 0 where
+pub record IsNamed {M : Type 0} (rules : Rules M) (events : List Event) (g : Gtid) : Type 0 where
   pub gtid : Event
   pub are : events ≡ gtid ∷ []
   pub names : IsGtid gtid g
 
 -- the rest of the events is such a beginning, as the state says
-abbrev pub IsBegun : Rules → Position → List Event → State → Place → Type 0
+abbrev pub IsBegun : {M : Type 0} → Rules M → Position → List Event → State M → Place M → Type 0
 IsBegun rules known opened s Front = ⊥
 IsBegun rules known opened s (Between first) = (opened ≡ []) × (s.known ≡ known)
 IsBegun rules known opened s (Named g bytes) = IsNamed rules opened g × IsNew known g × (s.known ≡ added known g) × (bytes ≡ total opened) × (total opened ≤ limit)
 IsBegun rules known opened s (Inside g bytes maps work) = IsUnended rules opened g maps work × IsNew known g × (s.known ≡ added known g) × (bytes ≡ total opened) × (total opened ≤ limit)
 
 -- whether a PREVIOUS_GTIDS event may follow: only where no event that counts stood behind the format description
-abbrev pub is_first : Place → Bool
+abbrev pub is_first : {M : Type 0} → Place M → Bool
 is_first (Between first) = first
 is_first place = false
 
@@ -179,14 +178,14 @@ is_nil [] = true
 is_nil (x ∷ xs) = false
 
 -- The events are the beginning of a log, and the state says which.
-pub record Stands (rules : Rules) (events : List Event) (s : State) : Type 0 where
+pub record Stands {M : Type 0} (rules : Rules M) (events : List Event) (s : State M) : Type 0 where
   pub known : Position
   pub opened : List Event
   pub log : IsLog rules events s.base s.entries known opened
   pub begun : IsBegun rules known opened s s.place
   pub first : is_first s.place ≡ is_nil (filter is_counted (drop 1 events))
 
-abbrev pub Begins : Rules → List Event → State → Type 0
+abbrev pub Begins : {M : Type 0} → Rules M → List Event → State M → Type 0
 Begins rules [] s = s ≡ front
 Begins rules (e ∷ es) s = Stands rules (e ∷ es) s
 
@@ -197,25 +196,39 @@ pub record IsCut (bytes : List ℕ) (events : List Event) (rest : List ℕ) : Ty
   pub short : 4 + length (joined events) ≤ last_place
 
 -- The GTID event of an entry of this GTID, which is open or whole, stands at this place: the events up to it, and it, begin a log.
-pub record StandsAt (rules : Rules) (bytes : List ℕ) (g : Gtid) (at : ℕ) : Type 0 where
+pub record StandsAt {M : Type 0} (rules : Rules M) (bytes : List ℕ) (g : Gtid) (at : ℕ) : Type 0 where
   pub before : List Event
   pub event : Event
   pub rest : List ℕ
   pub cut : IsCut bytes (before ++ event ∷ []) rest
   pub place : at ≡ 4 + length (joined before)
-  pub state : State
+  pub state : State M
   pub begins : Begins rules (before ++ event ∷ []) state
   pub names : IsGtid event g
 
+-- The entry behind n others ends at this place: the events up to there begin a log of n + 1 entries, and without the last of them one of n.
+pub record EntryEndsAt {M : Type 0} (rules : Rules M) (bytes : List ℕ) (n at : ℕ) : Type 0 where
+  pub before : List Event
+  pub last : Event
+  pub rest : List ℕ
+  pub cut : IsCut bytes (before ++ last ∷ []) rest
+  pub place : at ≡ 4 + length (joined (before ++ last ∷ []))
+  pub without : State M
+  pub begins_without : Begins rules before without
+  pub few : length without.entries ≡ n
+  pub state : State M
+  pub begins : Begins rules (before ++ last ∷ []) state
+  pub more : length state.entries ≡ n + 1
+
 -- a whole log
-pub record IsWholeLog (rules : Rules) (bytes : List ℕ) (base : Position) (entries : List Entry) : Type 0 where
+pub record IsWholeLog {M : Type 0} (rules : Rules M) (bytes : List ℕ) (base : Position) (entries : List Entry) : Type 0 where
   pub events : List Event
   pub cut : IsCut bytes events []
   pub known : Position
   pub log : IsLog rules events base entries known []
 
 -- the rest begins with a whole event, which the table refuses
-pub record IsWrong (rules : Rules) (s : State) (at : ℕ) (rest : List ℕ) (why : Why) : Type 0 where
+pub record IsWrong {M : Type 0} (rules : Rules M) (s : State M) (at : ℕ) (rest : List ℕ) (why : Why) : Type 0 where
   pub event : Event
   pub more : List ℕ
   pub are : rest ≡ event ++ more
@@ -224,18 +237,18 @@ pub record IsWrong (rules : Rules) (s : State) (at : ℕ) (rest : List ℕ) (why
   pub refused : step rules s event ≡ Err why
 
 -- what is wrong with the event at the front of the rest, if it is whole; of one that isn't, by its head
-abbrev pub Refuses : Rules → State → ℕ → List ℕ → Option Why → Type 0
+abbrev pub Refuses : {M : Type 0} → Rules M → State M → ℕ → List ℕ → Option Why → Type 0
 Refuses rules s at rest (Some why) =
     IsWrong rules s at rest why
     ⊎ ((is_held at rest ≡ false) × (head_refusal at s.place rest ≡ Some why))
 Refuses rules s at rest None = (is_held at rest ≡ false) × (head_refusal at s.place rest ≡ None)
 
 -- The bytes are events that begin a log, and a rest, which is wrong or may go on.
-pub record Parts (rules : Rules) (bytes : List ℕ) (log : Log) : Type 0 where
+pub record Parts {M : Type 0} (rules : Rules M) (bytes : List ℕ) (log : Log) : Type 0 where
   pub events : List Event
   pub rest : List ℕ
   pub cut : IsCut bytes events rest
-  pub state : State
+  pub state : State M
   pub begins : Begins rules events state
   pub why : Option Why
   pub refused : Refuses rules state (4 + length (joined events)) rest why
@@ -243,12 +256,12 @@ pub record Parts (rules : Rules) (bytes : List ℕ) (log : Log) : Type 0 where
 
 -- the bytes are less than the magic, and are its front
 abbrev pub IsShort : List ℕ → Log → Type 0
-IsShort bytes log = (length bytes < 4) × (bytes ≡ take (length bytes) magic) × (log ≡ log_of front 0 None)
+IsShort bytes log = (length bytes < 4) × (bytes ≡ take (length bytes) magic) × (log ≡ log_unread None)
 
 -- a byte of the magic that is there is wrong
 abbrev pub IsNoLog : List ℕ → Log → Type 0
-IsNoLog bytes log = (has_magic bytes ≡ false) × (log ≡ log_of front 0 (Some BadMagic))
+IsNoLog bytes log = (has_magic bytes ≡ false) × (log ≡ log_unread (Some BadMagic))
 
 -- what the bytes of a log mean
-abbrev pub Means : Rules → List ℕ → Log → Type 0
+abbrev pub Means : {M : Type 0} → Rules M → List ℕ → Log → Type 0
 Means rules bytes log = Parts rules bytes log ⊎ (IsShort bytes log ⊎ IsNoLog bytes log)

@@ -10,30 +10,31 @@ use Rattle.vs_gtid.specs.declared.Work.{Work}
 use Rattle.vs_gtid.specs.declared.Work.TheVariants.{Rows, Other, Journal}
 use Rattle.vs_gtid.specs.Positions.{Position, has}
 use Rattle.vs_gtid.specs.Joins.{added}
-use Rattle.vs_log.specs.declared.state.Statement.{Statement}
-use Rattle.vs_log.specs.declared.state.Statement.TheVariants.{Begin, Commit, Savepoint, Xa, Single}
-use Rattle.vs_log.specs.declared.state.Counted.{Counted}
-use Rattle.vs_log.specs.declared.state.Counted.TheVariants.{Changed, Journaled}
-use Rattle.vs_log.specs.declared.state.Place.{Place}
-use Rattle.vs_log.specs.declared.state.Place.TheVariants.{Front, Between, Named, Inside}
-use Rattle.vs_log.specs.declared.state.State.{State}
+use Rattle.vs_log.specs.declared.statement.Statement.{Statement}
+use Rattle.vs_log.specs.declared.statement.Statement.TheVariants.{Begin, Commit, Savepoint, Xa, Single}
+use Rattle.vs_log.specs.States.{Counted}
+use Rattle.vs_log.specs.States.Counted.{Changed, Journaled}
+use Rattle.vs_log.specs.States.{Place}
+use Rattle.vs_log.specs.States.Place.{Front, Between, Named, Inside}
+use Rattle.vs_log.specs.States.{State}
 use Rattle.vs_log.specs.declared.event.Sort.{Sort}
 use Rattle.vs_log.specs.declared.event.Sort.TheVariants.{AnonymousEvent, PassedOver, FormatEvent, PreviousEvent, GtidEvent, QueryEvent, XidEvent, MapEvent, RowsEvent, ForeignEvent}
 use Rattle.std.specs.Prelude.{ℕ, ◌+◌, true, false, nat_lt, if◌then◌else◌, List, [], ◌∷◌, ◌++◌, length, Option, Some, None, Result, Ok, Err}
 use Rattle.vs_binlog.specs.Heads.{Event, time_of, kind_of, length_of, body_of}
-use Rattle.vs_rows.specs.Tables.{Tables}
 use Rattle.vs_log.specs.Events.{sort_of, limit}
 
--- What the bodies of events mean, under the keyspace and the schema of the log.
-pub record Rules : Type 0 where
+-- What the bodies of events mean, where what is known of tables is of the type M.
+pub record Rules (M : Type 0) : Type 0 where
+  -- what is known of tables where a transaction begins
+  pub no_tables : M
   -- a query
   pub statement : List ℕ → Result Statement Why
   -- a PREVIOUS_GTIDS event
   pub block : List ℕ → Result Position Why
-  -- the tables that are known behind a table map, after those known before it
-  pub map : Tables → List ℕ → Result Tables Why
-  -- a rows event, by its kind, where these tables are known
-  pub rows : Tables → ℕ → List ℕ → Result (List Counted) Why
+  -- what is known of tables behind a table map, after what was known before it
+  pub map : M → List ℕ → Result M Why
+  -- a rows event, by its kind, where this is known of tables
+  pub rows : M → ℕ → List ℕ → Result (List Counted) Why
 
 infixl 10 ◌>>=◌
 abbrev pub ◌>>=◌ : {A B : Type 0} → Result A Why → (A → Result B Why) → Result B Why
@@ -83,25 +84,25 @@ more_work work [] = Some work
 more_work work (c ∷ more) = elim (one_more work c) [ None ↦ None | Some next ↦ more_work next more ]
 
 -- the bytes of the entry that is open
-abbrev pub size : Place → ℕ
+abbrev pub size : {M : Type 0} → Place M → ℕ
 size Front = 0
 size (Between first) = 0
 size (Named g bytes) = bytes
 size (Inside g bytes maps work) = bytes
 
 -- the bytes that the event's head makes: of its entry, or of itself where it is passed over
-abbrev pub sum_with : Place → Sort → ℕ → ℕ
+abbrev pub sum_with : {M : Type 0} → Place M → Sort → ℕ → ℕ
 sum_with place PassedOver bytes = bytes
 sum_with place sort bytes = size place + bytes
 
-unfoldable pub bytes_with : Place → Event → ℕ
+unfoldable pub bytes_with : {M : Type 0} → Place M → Event → ℕ
 bytes_with place e = sum_with place (sort_of e) (length_of e)
 
 -- the entry ends with the event
-abbrev pub ended : State → Event → Gtid → Work → State
+abbrev pub ended : {M : Type 0} → State M → Event → Gtid → Work → State M
 ended s e g work = record s { entries = s.entries ++ record { gtid = g; time = time_of e; work = work } ∷ []; place = Between false }
 
-abbrev pub with_base : State → Position → State
+abbrev pub with_base : {M : Type 0} → State M → Position → State M
 with_base s set = record s { base = set; known = set; place = Between false }
 
 -- the GTID of an event behind the GTIDs known before it
@@ -113,19 +114,19 @@ new_gtid known body =
     else Ok g
 
 -- it begins an entry
-abbrev pub named : State → Event → Gtid → State
+abbrev pub named : {M : Type 0} → State M → Event → Gtid → State M
 named s e g = record s { known = added s.known g; place = Named g (length_of e) }
 
--- a query behind a GTID event
-abbrev pub first_query : State → Event → Gtid → ℕ → Statement → Result State Why
-first_query s e g bytes Begin = Ok (record s { place = Inside g (bytes + length_of e) [] (Rows []) })
-first_query s e g bytes Xa = Err UnsupportedStatement
-first_query s e g bytes Commit = Ok (ended s e g Other)
-first_query s e g bytes Savepoint = Ok (ended s e g Other)
-first_query s e g bytes (Single work) = Ok (ended s e g work)
+-- a query behind a GTID event; where a transaction begins, this is known of tables
+abbrev pub first_query : {M : Type 0} → M → State M → Event → Gtid → ℕ → Statement → Result (State M) Why
+first_query none s e g bytes Begin = Ok (record s { place = Inside g (bytes + length_of e) none (Rows []) })
+first_query none s e g bytes Xa = Err UnsupportedStatement
+first_query none s e g bytes Commit = Ok (ended s e g Other)
+first_query none s e g bytes Savepoint = Ok (ended s e g Other)
+first_query none s e g bytes (Single work) = Ok (ended s e g work)
 
 -- a query inside a transaction
-abbrev pub later_query : State → Event → Gtid → ℕ → Tables → Work → Statement → Result State Why
+abbrev pub later_query : {M : Type 0} → State M → Event → Gtid → ℕ → M → Work → Statement → Result (State M) Why
 later_query s e g bytes maps work Commit = Ok (ended s e g work)
 later_query s e g bytes maps work Savepoint = Ok (record s { place = Inside g (bytes + length_of e) maps work })
 later_query s e g bytes maps work Begin = Err NestedBegin
@@ -133,11 +134,11 @@ later_query s e g bytes maps work Xa = Err UnsupportedStatement
 later_query s e g bytes maps work (Single single) = Err UnsupportedStatement
 
 -- the rows go to the work
-abbrev pub told : State → Event → Gtid → ℕ → Tables → Option Work → Result State Why
+abbrev pub told : {M : Type 0} → State M → Event → Gtid → ℕ → M → Option Work → Result (State M) Why
 told s e g bytes maps None = Err JournalNotAlone
 told s e g bytes maps (Some work) = Ok (record s { place = Inside g (bytes + length_of e) maps work })
 
-abbrev pub line : Rules → State → Event → Place → Sort → Result State Why
+abbrev pub line : {M : Type 0} → Rules M → State M → Event → Place M → Sort → Result (State M) Why
 line rules s e Front FormatEvent = unless (format_refusal (body_of e)) (record s { place = Between true })
 line rules s e Front sort = Err NoFormat
 line rules s e place AnonymousEvent = Err Anonymous
@@ -148,7 +149,7 @@ line rules s e place PreviousEvent = Err (BadOrder (kind_of e))
 line rules s e place ForeignEvent = Err (Unsupported (kind_of e))
 line rules s e (Between first) GtidEvent = new_gtid s.known (body_of e) >>= λ g. Ok (named s e g)
 line rules s e (Between first) sort = Err (BadOrder (kind_of e))
-line rules s e (Named g bytes) QueryEvent = rules.statement (body_of e) >>= first_query s e g bytes
+line rules s e (Named g bytes) QueryEvent = rules.statement (body_of e) >>= first_query rules.no_tables s e g bytes
 line rules s e (Named g bytes) sort = Err (BadOrder (kind_of e))
 line rules s e (Inside g bytes maps work) QueryEvent = rules.statement (body_of e) >>= later_query s e g bytes maps work
 line rules s e (Inside g bytes maps work) XidEvent = if nat_lt (length (body_of e)) 8 then Err (BadEvent 16) else Ok (ended s e g work)
@@ -157,5 +158,5 @@ line rules s e (Inside g bytes maps work) RowsEvent = rules.rows maps (kind_of e
 line rules s e (Inside g bytes maps work) sort = Err (BadOrder (kind_of e))
 
 -- What an event makes of a log that stands so, or what is wrong with it. Its size comes first.
-unfoldable pub step : Rules → State → Event → Result State Why
+unfoldable pub step : {M : Type 0} → Rules M → State M → Event → Result (State M) Why
 step rules s e = if nat_lt limit (bytes_with s.place e) then Err (TooLarge (bytes_with s.place e)) else line rules s e s.place (sort_of e)

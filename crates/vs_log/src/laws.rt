@@ -1,53 +1,79 @@
-ghost use Rattle.std.specs.Prelude.{◌≡◌, List as Items, ℕ};
-ghost use Rattle.vs_base.specs.declared.Gtid.{Gtid};
+//! Each law holds whatever is known of tables, at any type `M` of it. The functions do nothing.
 ghost use Rattle.vs_log.specs.Laws.{
-  Grows,
-  HasNewGtids,
-  IsOfWholeLog,
-  KnowsItsBase,
-  MeansByProductions,
-  TakesBeginnings,
+  AddsChanges,
+  AlwaysGrows,
+  AlwaysKnowsItsBase,
+  AlwaysMeansByProductions,
+  AlwaysNewGtids,
+  AlwaysOfWholeLog,
+  AlwaysOnePlace,
+  AlwaysReadsInSteps,
+  AlwaysTakesBeginnings,
+  AlwaysTellsEntries,
 };
-ghost use Rattle.vs_log.specs.Meaning.{log_meant};
-ghost use Rattle.vs_log.specs.Productions.{StandsAt};
-ghost use Rattle.vs_log.specs.Table.{Rules};
 
 /// The table takes an event where, and only where, the beginning of a log goes on with it.
 #[tactic(auto, using(crate::proofs::Beginnings::takes_beginnings))]
-pub fn law_beginnings()
-    ensures { (rules : Rules) → TakesBeginnings rules }
+#[inline(always)]
+pub fn law_beginnings<M>()
+    ensures { AlwaysTakesBeginnings M }
 {}
 
 /// Each list of bytes means one log by the productions: the one that the table gives.
-pub fn law_meaning()
-    ensures { (rules : Rules) (bytes : Items ℕ) → MeansByProductions rules bytes }
+#[inline(always)]
+pub fn law_meaning<M>()
+    ensures { AlwaysMeansByProductions M }
 {}
 
-/// With more bytes entries come behind those that stood, and a fault stays.
-pub fn law_growth()
-    ensures { (rules : Rules) (bytes more : Items ℕ) → Grows rules bytes more }
+/// With more bytes entries come behind those that stood, at the same places, and a fault stays.
+#[inline(always)]
+pub fn law_growth<M>()
+    ensures { AlwaysGrows M }
 {}
 
 /// The base is known where the beginning of a log that the bytes are tells it, and is then the log's.
 #[tactic(auto, using(crate::proofs::Bases::knows_its_base))]
-pub fn law_base()
-    ensures { (rules : Rules) (bytes : Items ℕ) → KnowsItsBase rules bytes }
+#[inline(always)]
+pub fn law_base<M>()
+    ensures { AlwaysKnowsItsBase M }
 {}
 
 /// The base and the entries are those of the longest front of the bytes that is a whole log.
 /// Where no front is one, there are none.
-pub fn law_longest()
-    ensures { (rules : Rules) (bytes : Items ℕ) → IsOfWholeLog rules bytes }
+#[inline(always)]
+pub fn law_longest<M>()
+    ensures { AlwaysOfWholeLog M }
 {}
 
 /// No GTID of a log stands twice, or lies in its base; and with the base, the GTIDs of its front never
 /// make a set of over 1,024 intervals.
 #[tactic(auto, using(crate::proofs::Distinct::new_gtids))]
-pub fn law_distinct()
-    ensures { (rules : Rules) (bytes : Items ℕ) → HasNewGtids (log_meant rules bytes) }
+#[inline(always)]
+pub fn law_distinct<M>()
+    ensures { AlwaysNewGtids M }
 {}
 
-/// The GTID event of an entry stands at one place.
-pub fn law_places()
-    ensures { (rules : Rules) (bytes : Items ℕ) (g : Gtid) (at other : ℕ) → StandsAt rules bytes g at → StandsAt rules bytes g other → at ≡ other }
+/// The GTID event of an entry stands at one place, and an entry ends at one.
+#[inline(always)]
+pub fn law_places<M>()
+    ensures { AlwaysOnePlace M }
+{}
+
+/// What a reader that takes one event after the other has of the log's meaning, and what the log means
+/// where it takes none.
+#[inline(always)]
+pub fn law_steps<M>()
+    ensures { AlwaysReadsInSteps M }
+{}
+
+/// Which entry is open behind each event, and where entries begin and end.
+#[inline(always)]
+pub fn law_entries<M>()
+    ensures { AlwaysTellsEntries M }
+{}
+
+/// The changes of further rows events come behind those of the transaction.
+#[inline(always)]
+pub fn law_changes()
+    ensures { AddsChanges }
 {}

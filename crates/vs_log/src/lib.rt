@@ -4,12 +4,13 @@
 
 mod event;
 mod laws;
-mod state;
+mod statement;
 #[cfg(test)]
 mod tests;
 
 pub use event::Sort;
 pub use laws::{
-    law_base, law_beginnings, law_distinct, law_growth, law_longest, law_meaning, law_places,
+    law_base, law_beginnings, law_changes, law_distinct, law_entries, law_growth, law_longest,
+    law_meaning, law_places, law_steps,
 };
-pub use state::{Counted, Place, State, Statement};
+pub use statement::Statement;

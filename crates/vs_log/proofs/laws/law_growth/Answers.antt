@@ -2,4 +2,4 @@ use Rattle.vs_log.proofs.Faults.{grows}
 use Rattle.vs_log.proofs.laws.law_growth.Goals as goal
 
 pub returns : goal.returns
-returns c = grows
+returns g c = grows

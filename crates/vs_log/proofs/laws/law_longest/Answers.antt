@@ -2,4 +2,4 @@ use Rattle.vs_log.proofs.Longest.{of_whole_log}
 use Rattle.vs_log.proofs.laws.law_longest.Goals as goal
 
 pub returns : goal.returns
-returns c = of_whole_log
+returns g c = of_whole_log

@@ -1,5 +1,5 @@
-use Rattle.vs_log.proofs.Places.{one_place}
+use Rattle.vs_log.proofs.Ends.{has_one_place}
 use Rattle.vs_log.proofs.laws.law_places.Goals as goal
 
 pub returns : goal.returns
-returns c = one_place
+returns g c = has_one_place

@@ -6,7 +6,7 @@ use Rattle.vs_entries.proofs.progress.Progress.take_rows.Goals as goal
 
 pub returns : goal.returns
 returns c =
-    rows_taken c.args.keyspace.now (state_of c.args.self.now) c.args.event.now c.args.gtid c.args.bytes c.args.self.now.maps c.args.self.now.changes c.in_ok-more.more c.append_changes.new.changes c.read_head-kind.result.kind c.read_head.result.length
+    rows_taken c.law_changes.ensures c.args.keyspace.now (state_of c.args.self.now) c.args.event.now c.args.gtid c.args.bytes c.args.self.now.maps c.args.self.now.changes c.in_ok-more.more c.append_changes.new.changes c.read_head-kind.result.kind c.read_head.result.length
     (ap (λ (h : Head). h.kind) c.read_head-kind.ensures)
     (ap (λ (h : Head). h.length) c.read_head.ensures)
     (rw c.body_of.ensures at c.in_ok-more.ensures)

@@ -10,14 +10,14 @@ use Rattle.vs_entries.proofs.reader.Reader.feed.Goals as goal
 pub invariant_of-self-then-self : goal.invariant_of-self-then-self
 invariant_of-self-then-self c =
     subst (λ bytes. IsWalk (rules_of c.self.inside.keyspace c.self.inside.schema) bytes c.self.inside.walk c.self.inside.refused) (sym c.in_ok-extend_from_slice.ensures.items)
-    (walk_more _ _ c.args.piece.now _ c.self.inside.refused c.self.invariant (elim c.then-self.branch [
+    (walk_more c.laws.ensures _ _ c.args.piece.now _ c.self.inside.refused c.self.invariant (elim c.then-self.branch [
       | then-self-via-then-self w ↦ ◌⊎◌.inl w.if-self.true
       | then-self-via-else-self+then-not-is_early w ↦ ◌⊎◌.inr (sym w.if-not-is_early.ensures)
     ]))
 
 pub read_front-requires-clause-stands : goal.read_front-requires-clause-stands
 read_front-requires-clause-stands c =
-    rw (c.as_bytes.ensures, c.deref.ensures.value, c.in_ok-extend_from_slice.ensures.items) (held_more (rules_of c.self.inside.keyspace c.self.inside.schema) c.self.inside.fed.items c.args.piece.now c.self.inside.walk c.self.invariant.stands)
+    rw (c.as_bytes.ensures, c.deref.ensures.value, c.in_ok-extend_from_slice.ensures.items) (held_more c.laws.ensures (rules_of c.self.inside.keyspace c.self.inside.schema) c.self.inside.fed.items c.args.piece.now c.self.inside.walk c.self.invariant.stands)
 
 pub returns-in-Ok-clause-ok : goal.returns-in-Ok-clause-ok
 returns-in-Ok-clause-ok c =

@@ -6,4 +6,4 @@ use Rattle.vs_entries.proofs.reader.Reader.new.Goals as goal
 
 pub invariant_of-result : goal.invariant_of-result
 invariant_of-result c =
-    subst (λ bytes. IsWalk (rules_of c.in_ok-from_bytes.field-0 c.in_ok-copy.field-0) bytes c.new-2.result _) (sym c.new.ensures.items) (walk_new _ _ c.new-2.ensures)
+    subst (λ bytes. IsWalk (rules_of c.in_ok-from_bytes.field-0 c.in_ok-copy.field-0) bytes c.new-2.result _) (sym c.new.ensures.items) (walk_new c.laws.ensures _ _ c.new-2.ensures)

@@ -4,20 +4,20 @@ use Rattle.vs_entries.proofs.WalkLemmas.{front_ends, front_none, front_on, front
 use Rattle.vs_entries.proofs.walk.Walk.read_front.Goals as goal
 
 pub returns-then-bytes-lt4-clause-ok : goal.returns-then-bytes-lt4-clause-ok
-returns-then-bytes-lt4-clause-ok c = front_short _ _ _ c.requires.stands c.requires.given c.if-bytes-lt4.true
+returns-then-bytes-lt4-clause-ok c = front_short c.laws.ensures _ _ _ c.requires.stands c.requires.given c.if-bytes-lt4.true
 
 pub returns-then-not-begins_as_log-clause-ok : goal.returns-then-not-begins_as_log-clause-ok
-returns-then-not-begins_as_log-clause-ok c = front_none _ _ _ c.requires.stands c.requires.given (sym c.if-not-begins_as_log.ensures)
+returns-then-not-begins_as_log-clause-ok c = front_none c.laws.ensures _ _ _ c.requires.stands c.requires.given (sym c.if-not-begins_as_log.ensures)
 
 pub events-init : goal.events-init
-events-init c = front_starts _ _ _ c.requires.stands c.requires.early c.requires.given (sym c.if-not-begins_as_log.ensures) c.if-bytes-lt4.false
+events-init c = front_starts c.laws.ensures _ _ _ c.requires.stands c.requires.early c.requires.given (sym c.if-not-begins_as_log.ensures) c.if-bytes-lt4.false
 
 pub returns-then-not-is_early-clause-ok : goal.returns-then-not-is_early-clause-ok
-returns-then-not-is_early-clause-ok c = front_ends _ _ c.events.self c.take_turn.new.self c.events.invariant (rw c.in-Ok-None.field-0-is at c.in-Ok-None.ensures) (sym c.is_early.ensures ∙ c.if-not-is_early.true)
+returns-then-not-is_early-clause-ok c = front_ends c.laws.ensures _ _ c.events.self c.take_turn.new.self c.events.invariant (rw c.in-Ok-None.field-0-is at c.in-Ok-None.ensures) (sym c.is_early.ensures ∙ c.if-not-is_early.true)
 
 pub events-preserved : goal.events-preserved
-events-preserved c = front_on _ _ c.events.self c.take_turn.new.self c.events.invariant (rw c.in-Ok-None.field-0-is at c.in-Ok-None.ensures) (sym c.is_early.ensures ∙ c.if-not-is_early.false)
+events-preserved c = front_on c.laws.ensures _ _ c.events.self c.take_turn.new.self c.events.invariant (rw c.in-Ok-None.field-0-is at c.in-Ok-None.ensures) (sym c.is_early.ensures ∙ c.if-not-is_early.false)
 
 pub returns-in-Ok-Some-Ended-clause-ok : goal.returns-in-Ok-Some-Ended-clause-ok
 returns-in-Ok-Some-Ended-clause-ok c =
-    front_stopped _ _ c.events.self c.take_turn.new.self c.in-Ok-Some-Ended.field-0-0 c.in-Ok-Some-Ended.why c.is_refused.result c.events.invariant (rw c.in-Ok-Some-Ended.field-0-is at c.in-Ok-Some-Ended.ensures) c.in-Ok-Some-Ended.field-0-0-is (c.is_refused.ensures ∙ ap (λ w. is_refused c.take_turn.new.self.progress.standing w) c.in-Ok-Some-Ended.why-is)
+    front_stopped c.laws.ensures _ _ c.events.self c.take_turn.new.self c.in-Ok-Some-Ended.field-0-0 c.in-Ok-Some-Ended.why c.is_refused.result c.events.invariant (rw c.in-Ok-Some-Ended.field-0-is at c.in-Ok-Some-Ended.ensures) c.in-Ok-Some-Ended.field-0-0-is (c.is_refused.ensures ∙ ap (λ w. is_refused c.take_turn.new.self.progress.standing w) c.in-Ok-Some-Ended.why-is)

@@ -8,8 +8,8 @@ use Rattle.vs_binlog.specs.Bodies.{Said, query_body}
 use Rattle.vs_binlog.specs.Words.{first_word}
 use Rattle.vs_gtid.specs.declared.Work.TheVariants.{Ddl, Other}
 use Rattle.vs_rows.specs.Tables.{schema_of}
-use Rattle.vs_log.specs.declared.state.Statement.{Statement}
-use Rattle.vs_log.specs.declared.state.Statement.TheVariants.{Begin, Commit, Savepoint, Xa, Single}
+use Rattle.vs_log.specs.declared.statement.Statement.{Statement}
+use Rattle.vs_log.specs.declared.statement.Statement.TheVariants.{Begin, Commit, Savepoint, Xa, Single}
 
 abbrev pub is_one_of : List (List ℕ) → List ℕ → Bool
 is_one_of words word = list_any (λ w. pointwise nat_eq w word) words
