@@ -56,12 +56,7 @@ no_more : (rest : List ℕ) (n : ℕ) → length rest + 4 ≡ n → n ≤ 4 → 
 no_more [] n sum most = refl
 no_more (x ∷ rest) n sum most = absurd (omega (arith, sum, most))
 
--- what was taken is no more than so many bytes
-pub within_bytes : (before now : Option (List ℕ)) (bytes : List ℕ) (count : ℕ) → length bytes ≤ count → TakesOf before now (λ taken rest. taken ≡ bytes) → Takes before now (λ taken. length taken ≤ count)
-within_bytes None now bytes count few took = tt
-within_bytes (Some before) now bytes count few (taken, rest, is, left, same) = (taken, rest, is, left, subst (λ l. length l ≤ count) (sym same) few)
-
--- nor with the bytes of a read more, which asks for no more than are missing
+-- what was taken with a read more is no more than so many bytes
 pub within_read : (before between now : Option (List ℕ)) (bytes buf : List ℕ) (n count : ℕ) → length bytes + n ≤ count →
     TakesOf before between (λ taken rest. taken ≡ bytes) → Takes between now (λ more. more ≡ take n buf) → Takes before now (λ taken. length taken ≤ count)
 within_read None between now bytes buf n count few first second = tt
@@ -73,11 +68,6 @@ within_read (Some before) between now bytes buf n count few (taken, rest, is, le
       next.3,
       omega (arith, few, length-append taken next.0, ap (λ l. length l) same, ap (λ l. length l) next.4, length-take n buf),
     )
-
--- the length of a frame, or less
-pub head_within : (before now : Option (List ℕ)) → Takes before now (λ taken. length taken ≤ 4) → Takes before now IsWithinFrame
-head_within None now took = tt
-head_within (Some before) now (taken, rest, is, left, few) = (taken, rest, is, left, ◌⊎◌.inl few)
 
 -- the four bytes of a length, and nothing behind them
 only_length : (h rest : List ℕ) (n : ℕ) → h ≡ to_be_bytes w32 n ++ rest → length rest + 4 ≡ length h → length h ≤ 4 → h ≡ to_be_bytes w32 n
