@@ -74,15 +74,15 @@ HasGiven-fed law r piece placed h =
     }
 
 -- each entry that is given leaves fewer
-pub fewer_left : (r new : Fed) (e : Entry) (at : ℕ) → Gives r (Ok (took.Entry e at)) new → length (log_fed new).entries - new.given < length (log_fed r).entries - r.given
-fewer_left r new e at (unspent, behind, stands, is) =
+pub fewer_left : (r new : Fed) (e : Entry) (at end : ℕ) → Gives r (Ok (took.Entry e at end)) new → length (log_fed new).entries - new.given < length (log_fed r).entries - r.given
+fewer_left r new e at end (unspent, behind, stands, ends, is) =
     subst (λ (x : Fed). length (log_fed x).entries - x.given < length (log_fed r).entries - r.given) (sym is)
     (omega (arith, behind.count, ap (λ es. length es) behind.are, length-append behind.before (e ∷ behind.later)))
 
 -- ---- one entry more
 
-pub HasGiven-more : (r new : Fed) (placed : List Placed) (e : Entry) (at : ℕ) → HasGiven r placed → Gives r (Ok (took.Entry e at)) new → HasGiven new (placed ++ record { entry = e; at = at } ∷ [])
-HasGiven-more r new placed e at h (unspent, behind, stands, is) = subst (λ x. HasGiven x (placed ++ t ∷ [])) (sym is) (record {
+pub HasGiven-more : (r new : Fed) (placed : List Placed) (e : Entry) (at end : ℕ) → HasGiven r placed → Gives r (Ok (took.Entry e at end)) new → HasGiven new (placed ++ record { entry = e; at = at } ∷ [])
+HasGiven-more r new placed e at end h (unspent, behind, stands, ends, is) = subst (λ x. HasGiven x (placed ++ t ∷ [])) (sym is) (record {
   count = length-append placed (t ∷ []) ∙ ap (λ n. n + 1) h.count ∙ one_more;
   within = omega (arith, behind.count, ap (λ es. length es) behind.are, length-append behind.before (e ∷ behind.later));
   entries = map-append (λ x. x.entry) placed (t ∷ []) ∙ ap (λ es. es ++ e ∷ []) (h.entries ∙ front) ∙ sym next;
@@ -103,8 +103,8 @@ HasGiven-more r new placed e at h (unspent, behind, stands, is) = subst (λ x. H
         ap (λ n. take n (log_fed r).entries) (let n : suc r.given ≡ length behind.before + 1 = omega (arith, behind.count) in n)
         ∙ ap (λ es. take (length behind.before + 1) es) behind.are ∙ take-append-add behind.before (e ∷ behind.later) 1
 
-pub IsSameLog-more : (a r new : Fed) (e : Entry) (at : ℕ) → IsSameLog a r → Gives r (Ok (took.Entry e at)) new → IsSameLog a new
-IsSameLog-more a r new e at same (unspent, behind, stands, is) = subst (λ x. IsSameLog a x) (sym is) (record { keyspace = same.keyspace; schema = same.schema; bytes = same.bytes })
+pub IsSameLog-more : (a r new : Fed) (e : Entry) (at end : ℕ) → IsSameLog a r → Gives r (Ok (took.Entry e at end)) new → IsSameLog a new
+IsSameLog-more a r new e at end same (unspent, behind, stands, ends, is) = subst (λ x. IsSameLog a x) (sym is) (record { keyspace = same.keyspace; schema = same.schema; bytes = same.bytes })
 
 -- the last one was given
 pub HasGiven-all : (r : Fed) (placed : List Placed) (fault : Option LogFault) → HasGiven r placed → r.given ≡ length (log_fed r).entries → option_map fault_of fault ≡ (log_fed r).fault →

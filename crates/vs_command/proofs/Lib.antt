@@ -13,3 +13,4 @@ pub mod SaidLemmas
 pub mod DueLemmas
 pub mod StageLemmas
 pub mod LineLemmas
+pub mod OutsideLemmas

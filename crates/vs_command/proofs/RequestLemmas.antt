@@ -1,5 +1,6 @@
 -- What is taken of an input, and what a frame at its front is.
-use Rattle.std.proofs.Common.{◌≡◌, ◌≢◌, ◌==◌, ℕ, suc, Bool, true, false, ◌&&◌, not, nat_eq, eqb-true, leb-true, ◌≤◌, ◌<◌, ◌+◌, List, [], ◌∷◌, ◌++◌, length, Option, Some, None, Result, Ok, Err, refl, sym, ap, subst, ◌∙◌, append_assoc, append-nil, length-append, arith}
+use Rattle.std.proofs.Common.{◌≡◌, ◌≢◌, ◌==◌, ℕ, suc, Bool, true, false, ◌&&◌, not, nat_eq, eqb-true, leb-true, ◌≤◌, ◌<◌, ◌+◌, List, [], ◌∷◌, ◌++◌, length, Option, Some, None, Result, Ok, Err, refl, sym, ap, subst, ◌∙◌, append_assoc, append-nil, length-append, take, arith}
+use Rattle.std.proofs.lemmas.List.{length-take}
 use Rattle.std.specs.Prelude.{IfSome, IsTrue, ◌⊎◌, ◌||◌, nat_le}
 use Rattle.std.specs.List.{AllByRecursion, list_all}
 use Rattle.std.specs.Int.{w32, to_be_bytes}
@@ -20,7 +21,7 @@ use Rattle.vs_request.specs.declared.request.Request.{Request}
 use Rattle.vs_request.specs.declared.request.Wanted.{Wanted}
 use Rattle.vs_base.specs.declared.ShardName.{ShardName}
 use Rattle.vs_command.specs.declared.start.Start.{Start}
-use Rattle.vs_command.specs.Requests.{Asks, HasEnded, HasTaken, IsFaultOf, IsFaultOfMessage, IsFrame, IsNotBuilt, IsPlain, IsUnbuilt, SaysLength, TakesOf, end_of, entry_of, has_no_flags, no_flags}
+use Rattle.vs_command.specs.Requests.{Asks, HasEnded, HasTaken, IsFaultOf, IsFaultOfMessage, IsFrame, IsNotBuilt, IsPlain, IsUnbuilt, IsWithinFrame, SaysLength, TakesOf, end_of, entry_of, has_no_flags, no_flags}
 
 -- nothing taken
 pub TakesOf-none : (P : List ℕ → List ℕ → Type 0) (told : Option (List ℕ)) → ((rest : List ℕ) → told ≡ Some rest → P [] rest) → TakesOf told told P
@@ -55,6 +56,19 @@ no_more : (rest : List ℕ) (n : ℕ) → length rest + 4 ≡ n → n ≤ 4 → 
 no_more [] n sum most = refl
 no_more (x ∷ rest) n sum most = absurd (omega (arith, sum, most))
 
+-- what was taken with a read more is no more than so many bytes
+pub within_read : (before between now : Option (List ℕ)) (bytes buf : List ℕ) (n count : ℕ) → length bytes + n ≤ count →
+    TakesOf before between (λ taken rest. taken ≡ bytes) → Takes between now (λ more. more ≡ take n buf) → Takes before now (λ taken. length taken ≤ count)
+within_read None between now bytes buf n count few first second = tt
+within_read (Some before) between now bytes buf n count few (taken, rest, is, left, same) second =
+    let next : Takes (Some rest) now (λ more. more ≡ take n buf) = subst (λ o. Takes o now (λ more. more ≡ take n buf)) left second in (
+      taken ++ next.0,
+      next.1,
+      is ∙ ap (λ l. taken ++ l) next.2 ∙ sym (append_assoc taken next.0 next.1),
+      next.3,
+      omega (arith, few, length-append taken next.0, ap (λ l. length l) same, ap (λ l. length l) next.4, length-take n buf),
+    )
+
 -- the four bytes of a length, and nothing behind them
 only_length : (h rest : List ℕ) (n : ℕ) → h ≡ to_be_bytes w32 n ++ rest → length rest + 4 ≡ length h → length h ≤ 4 → h ≡ to_be_bytes w32 n
 only_length h rest n is sum most = is ∙ ap (λ l. to_be_bytes w32 n ++ l) (no_more rest (length h) sum most) ∙ append-nil (to_be_bytes w32 n)
@@ -88,6 +102,19 @@ cut_message before between now h m n held (small, rest, is, sum) most within sho
       omega (arith, are, length-append a b, ap (λ l. length l) front, ap (λ l. length l) t.0),
       t.1 fewer,
     )) first second
+
+-- the length of a frame, and no more bytes behind it than it says
+pub message_within : (before between now : Option (List ℕ)) (h : List ℕ) (n : ℕ) → SaysLength h n → length h ≤ 4 → n ≤ 16777216 →
+    TakesOf before between (TookUpTo 4 h) → Takes between now (λ taken. length taken ≤ n) → Takes before now IsWithinFrame
+message_within None between now h n says most within first second = tt
+message_within (Some before) between now h n (small, rest, is, sum) most within (a, middle, are, left, took) second =
+    let next : Takes (Some middle) now (λ taken. length taken ≤ n) = subst (λ o. Takes o now (λ taken. length taken ≤ n)) left second in (
+      a ++ next.0,
+      next.1,
+      are ∙ ap (λ l. a ++ l) next.2 ∙ sym (append_assoc a next.0 next.1),
+      next.3,
+      ◌⊎◌.inr (n, next.0, ap (λ l. l ++ next.0) (took.0 ∙ only_length h rest n is sum most), within, next.4),
+    )
 
 -- the frame is whole
 pub whole_frame : (before between now : Option (List ℕ)) (h m : List ℕ) (n : ℕ) → SaysLength h n → length h ≤ 4 → n ≤ 16777216 →

@@ -1,5 +1,6 @@
 pub mod Spelling
 pub mod Requests
+pub mod Outside
 pub mod Built
 pub mod Sending
 pub mod Streaming

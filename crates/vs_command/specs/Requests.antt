@@ -122,3 +122,7 @@ abbrev pub HasTaken : RequestFault → List ℕ → List ℕ → Type 0
 HasTaken (Cut held) taken rest = rest ≡ []
 HasTaken (TooLong n) taken rest = length taken ≡ 4
 HasTaken fault taken rest = IsFrame taken
+
+-- No byte behind the frame at the front was taken: no more than its length, in four bytes; or these, and no more bytes behind them than they say, which is at most 16 MiB.
+abbrev pub IsWithinFrame : List ℕ → Type 0
+IsWithinFrame taken = (length taken ≤ 4) ⊎ ((n : ℕ) × (message : List ℕ) × (taken ≡ to_be_bytes w32 n ++ message) × (n ≤ 16777216) × (length message ≤ n))

@@ -1,13 +1,16 @@
-ghost use Rattle.std.specs.Prelude.{◌≡◌, ◌≤◌, ◌⊎◌, IfSome};
+ghost use Rattle.std.specs.Prelude.{◌≡◌, ◌≤◌, ◌⊎◌, IfSome, false};
 ghost use Rattle.vs_base.specs.declared.ShardName.{ShardName};
+ghost use Rattle.vs_base.specs.Names.{same_name};
 ghost use Rattle.vs_outside.specs.Clusters.{find_shard};
 ghost use Rattle.vs_outside.specs.Counts.{Rose};
-ghost use Rattle.vs_outside.specs.Told.{Writes};
+ghost use Rattle.vs_outside.specs.Feeds.{GivesAllBack};
+ghost use Rattle.vs_outside.specs.Told.{Takes, Writes};
 ghost use Rattle.vs_command.specs.declared.status.RequestFault.{RequestFault};
 ghost use Rattle.vs_command.specs.declared.status.Status.{Status};
 ghost use Rattle.vs_command.specs.Causes.{HasRead, IsDue, IsOutside, ShardAsksFor};
 ghost use Rattle.vs_command.specs.Laws.{Laws};
-ghost use Rattle.vs_command.specs.Requests.{IsFaultOf};
+ghost use Rattle.vs_command.specs.Outside.{GoesOn, KeepsName, KeepsUnasked};
+ghost use Rattle.vs_command.specs.Requests.{IsFaultOf, IsWithinFrame};
 ghost use Rattle.vs_command.specs.Stages.{IsBrought, IsBroughtOn, stage};
 ghost use Rattle.vs_command.specs.Streaming.{Headline, IsOfStream, Outcome};
 
@@ -54,6 +57,12 @@ fn stream_shard<R: Wait, O: Sink, T: Tablets>(
     ensures link { result ≡ Status.LinkFault → Rose (O.faults output.old) (O.faults output.new) }
     ensures feed { (n : ShardName) → result ≡ Status.FeedFault n → Rose (T.faults tablets.old n) (T.faults tablets.new n) }
     ensures opening { (n : ShardName) → result ≡ Status.OpenFault n → Rose (T.open_faults tablets.old n) (T.open_faults tablets.new n) }
+    ensures goes_on { GoesOn T.cluster T.faults T.waits T.open_faults T.list_faults T.sound tablets.old tablets.new }
+    ensures gives_back { GivesAllBack (T.opened tablets.old) (T.returned tablets.old) (T.opened tablets.new) (T.returned tablets.new) }
+    ensures folder { T.folder tablets.new ≡ T.folder tablets.old }
+    ensures others { (n : ShardName) → same_name asked.name n ≡ false → KeepsName T.faults T.waits T.open_faults tablets.old tablets.new n }
+    ensures sent { Writes (O.sent output.old) (O.sent output.new) (λ written. Unit {0}) }
+    ensures output_later { O.faults output.old ≤ O.faults output.new }
 {
     laws();
     let Asked { name, start } = asked;
@@ -95,6 +104,17 @@ pub fn connection<R: Wait, I: Source, O: Sink, T: Tablets, C: Clock>(
     ensures input { result ≡ Status.InputFault → Rose (I.faults input.old) (I.faults input.new) }
     ensures feed { (name : ShardName) → result ≡ Status.FeedFault name → Rose (T.faults tablets.old name) (T.faults tablets.new name) }
     ensures opening { (name : ShardName) → result ≡ Status.OpenFault name → Rose (T.open_faults tablets.old name) (T.open_faults tablets.new name) }
+
+    // what stays, whatever the answer
+    ensures within { Takes (I.left input.old) (I.left input.new) IsWithinFrame }
+    ensures sent { Writes (O.sent output.old) (O.sent output.new) (λ written. Unit {0}) }
+    ensures input_later { I.faults input.old ≤ I.faults input.new }
+    ensures output_later { O.faults output.old ≤ O.faults output.new }
+    ensures goes_on { GoesOn T.cluster T.faults T.waits T.open_faults T.list_faults T.sound tablets.old tablets.new }
+    ensures gives_back { GivesAllBack (T.opened tablets.old) (T.returned tablets.old) (T.opened tablets.new) (T.returned tablets.new) }
+    ensures folder { T.folder tablets.new ≡ T.folder tablets.old }
+    ensures others { IfSome (I.left input.old) (KeepsUnasked T.faults T.waits T.open_faults tablets.old tablets.new) }
+    ensures clock { _clock.new ≡ _clock.old }
 {
     laws();
     match read_request(alloc, input) {

@@ -12,9 +12,13 @@ ghost use Rattle.std.specs.Prelude.{
   IfSome,
   MatchOption,
   OnOk,
+  false,
 };
+ghost use Rattle.vs_base.specs.declared.ShardName.{ShardName};
+ghost use Rattle.vs_base.specs.Names.{same_name};
 ghost use Rattle.vs_outside.specs.Clusters.{Shard, find_shard};
 ghost use Rattle.vs_outside.specs.Counts.{Rose};
+ghost use Rattle.vs_outside.specs.Feeds.{GivesAllBack};
 ghost use Rattle.vs_log.specs.Laws.{HasNewGtids};
 ghost use Rattle.vs_log.specs.Meaning.{log_meant};
 ghost use Rattle.vs_log.specs.Productions.{StandsAt};
@@ -29,6 +33,7 @@ ghost use Rattle.vs_command.specs.Fetched.{
   IsSameLog,
   read_as,
 };
+ghost use Rattle.vs_command.specs.Outside.{GoesOn, KeepsName};
 ghost use Rattle.vs_command.specs.Stages.{HasSchema};
 ghost use Rattle.vs_command.specs.Streaming.{HasBadSchema};
 
@@ -39,8 +44,8 @@ use vs_base::{List, OutOfMemory, ShardName};
 use vs_entries::{LogRefusal, Reader, Took};
 use vs_gtid::GtidSet;
 use vs_log::{law_distinct, law_growth};
-use vs_rows::Maps;
 use vs_outside::{AskEnd, Failed, Feed, Got, Opened, Tablets};
+use vs_rows::Maps;
 use vs_schema::{Schema, SchemaRefusal};
 
 /// Why a feed was not read to its end.
@@ -194,6 +199,10 @@ pub fn fetch_log<R: Wait, T: Tablets>(
     ensures open_failed { result ≡ Err FetchEnd.OpenFault → Rose (T.open_faults tablets.old name.now) (T.open_faults tablets.new name.now) }
     ensures feed_opened { result ≡ Err FetchEnd.FeedFault → IfSome (T.cluster tablets.old) (λ c. HasSchema (find_shard c name.now)) }
     ensures feed_failed { result ≡ Err FetchEnd.FeedFault → Rose (T.faults tablets.old name.now) (T.faults tablets.new name.now) }
+    ensures goes_on { GoesOn T.cluster T.faults T.waits T.open_faults T.list_faults T.sound tablets.old tablets.new }
+    ensures gives_back { GivesAllBack (T.opened tablets.old) (T.returned tablets.old) (T.opened tablets.new) (T.returned tablets.new) }
+    ensures folder { T.folder tablets.new ≡ T.folder tablets.old }
+    ensures others { (n : ShardName) → same_name name.now n ≡ false → KeepsName T.faults T.waits T.open_faults tablets.old tablets.new n }
 {
     law_distinct::<Maps>();
     let opened = match tablets.open_log(alloc, name) {

@@ -50,6 +50,9 @@ pub fn run_plain<I: Source, O: Sink, T: Tablets>(
     ensures words { (AreShowWords words.now → ⊥) → (result ≡ Status.Usage) × (I.left input.new ≡ I.left input.old) }
     ensures silent { (AreShowWords words.now → ⊥) → O.sent output.new ≡ O.sent output.old }
     ensures tablets { _tablets.new ≡ _tablets.old }
+    ensures untouched { (AreShowWords words.now → ⊥) → (input.new ≡ input.old) × (output.new ≡ output.old) }
+    ensures input_later { I.faults input.old ≤ I.faults input.new }
+    ensures output_later { O.faults output.old ≤ O.faults output.new }
     ensures whole { result ≡ Status.Done → IfSome (I.left input.old) (λ bytes. bad_frame bytes ≡ None) }
     ensures whole_when { AreShowWords words.now → IfSome (I.left input.old) (λ bytes. bad_frame bytes ≡ None → IsOutside result ⊎ (result ≡ Status.Done)) }
     ensures bad { (number : ℕ) (why : FrameWhy) → result ≡ Status.BadFrame number why → IfSome (I.left input.old) (λ bytes. bad_frame bytes ≡ Some (number, why)) }

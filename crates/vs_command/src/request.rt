@@ -16,6 +16,7 @@ ghost use Rattle.std.specs.Prelude.{
 ghost use Rattle.std.specs.List.{AllByRecursion};
 ghost use Rattle.vs_base.specs.Names.{FitsName};
 ghost use Rattle.vs_outside.specs.Counts.{Rose};
+ghost use Rattle.vs_outside.specs.Told.{Takes};
 ghost use Rattle.vs_frame.specs.Frames.{IsWithinLimit, framed};
 ghost use Rattle.vs_request.specs.Requests.{Says};
 ghost use Rattle.vs_request.specs.declared.request.Request.{Request};
@@ -30,6 +31,7 @@ ghost use Rattle.vs_command.specs.Requests.{
   IsNotBuilt,
   IsPlain,
   IsUnbuilt,
+  IsWithinFrame,
   SaysLength,
   TakesOf,
   end_of,
@@ -68,6 +70,7 @@ const READ_SIZE: usize = 65536;
 fn take_bytes<I: Source>(alloc: Global, input: &mut I, count: usize) -> Result<Vec<u8>, RequestEnd>
     ensures took { IfOk result (λ v. TakesOf (I.left input.old) (I.left input.new) (λ taken rest. (taken ≡ v.items) × (length taken < count → rest ≡ []))) }
     ensures most { IfOk result (λ v. length v.items ≤ count) }
+    ensures within { Takes (I.left input.old) (I.left input.new) (λ taken. length taken ≤ count) }
     ensures kind { (fault : RequestFault) → result ≡ Err (RequestEnd.Fault fault) → ⊥ }
     ensures later { I.faults input.old ≤ I.faults input.new }
     ensures failed { result ≡ Err RequestEnd.InputFault → Rose (I.faults input.old) (I.faults input.new) }
@@ -102,6 +105,7 @@ fn length_in(head: &[u8]) -> Option<u32>
 fn read_frame<I: Source>(alloc: Global, input: &mut I) -> Result<Vec<u8>, RequestEnd>
     ensures frame { IfOk result (λ m. TakesOf (I.left input.old) (I.left input.new) (λ taken rest. (taken ≡ framed m.items) × IsWithinLimit m.items)) }
     ensures fault { (fault : RequestFault) → result ≡ Err (RequestEnd.Fault fault) → TakesOf (I.left input.old) (I.left input.new) (HasEnded fault) }
+    ensures within { Takes (I.left input.old) (I.left input.new) IsWithinFrame }
     ensures later { I.faults input.old ≤ I.faults input.new }
     ensures failed { result ≡ Err RequestEnd.InputFault → Rose (I.faults input.old) (I.faults input.new) }
 {
@@ -230,6 +234,7 @@ pub fn read_request<I: Source>(alloc: Global, input: &mut I) -> Result<Asked, Re
     ensures took { IfOk result (λ _. TakesOf (I.left input.old) (I.left input.new) (λ taken rest. IsFrame taken)) }
     ensures fault { (fault : RequestFault) → result ≡ Err (RequestEnd.Fault fault) → IfSome (I.left input.old) (λ bytes. IsFaultOf bytes fault) }
     ensures took_of_fault { (fault : RequestFault) → result ≡ Err (RequestEnd.Fault fault) → TakesOf (I.left input.old) (I.left input.new) (HasTaken fault) }
+    ensures within { Takes (I.left input.old) (I.left input.new) IsWithinFrame }
     ensures later { I.faults input.old ≤ I.faults input.new }
     ensures failed { result ≡ Err RequestEnd.InputFault → Rose (I.faults input.old) (I.faults input.new) }
 {

@@ -11,11 +11,13 @@ ghost use Rattle.vs_base.specs.declared.Gtid.{Gtid};
 ghost use Rattle.vs_base.specs.declared.ShardName.{ShardName};
 ghost use Rattle.vs_base.specs.declared.Why.{Why};
 ghost use Rattle.vs_outside.specs.Counts.{Rose};
-ghost use Rattle.vs_outside.specs.Told.{Writes};
+ghost use Rattle.vs_outside.specs.Feeds.{GivesAllBack};
+ghost use Rattle.vs_outside.specs.Told.{Takes, Writes};
 ghost use Rattle.vs_command.specs.declared.status.RequestFault.{RequestFault};
 ghost use Rattle.vs_command.specs.declared.status.Status.{Status};
 ghost use Rattle.vs_command.specs.Causes.{AnswersLog, HasRead, IsBadSchema, IsDue, IsOutside, IsUnknown};
-ghost use Rattle.vs_command.specs.Requests.{IsFaultOf};
+ghost use Rattle.vs_command.specs.Outside.{GoesOn, KeepsUnasked};
+ghost use Rattle.vs_command.specs.Requests.{IsFaultOf, IsWithinFrame};
 ghost use Rattle.vs_command.specs.Stages.{IsBrought, stage};
 ghost use Rattle.vs_command.specs.Streaming.{Headline};
 ghost use Rattle.vs_command.specs.Words.{AreStreamWords};
@@ -64,6 +66,8 @@ pub fn run<R: Wait, I: Source, O: Sink, T: Tablets, C: Clock>(
     ensures usage { result ≡ Status.Usage → (folder : Items ℕ) → AreStreamWords words.now folder → ⊥ }
     ensures words { ((folder : Items ℕ) → AreStreamWords words.now folder → ⊥) → result ≡ Status.Usage }
     ensures silent { ((folder : Items ℕ) → AreStreamWords words.now folder → ⊥) → O.sent output.new ≡ O.sent output.old }
+    ensures untouched { ((folder : Items ℕ) → AreStreamWords words.now folder → ⊥) → (input.new ≡ input.old) × (output.new ≡ output.old) × (tablets.new ≡ tablets.old) }
+    ensures pointed { (folder : Items ℕ) → AreStreamWords words.now folder → (T.folder tablets.new ≡ folder) ⊎ ((result ≡ Status.Memory) × (T.folder tablets.new ≡ T.folder tablets.old)) }
 
     // the request
     ensures request { (fault : RequestFault) → result ≡ Status.Request fault → IfSome (I.left input.old) (λ bytes. IsFaultOf bytes fault) }
@@ -91,6 +95,16 @@ pub fn run<R: Wait, I: Source, O: Sink, T: Tablets, C: Clock>(
     ensures input { result ≡ Status.InputFault → Rose (I.faults input.old) (I.faults input.new) }
     ensures feed { (name : ShardName) → result ≡ Status.FeedFault name → Rose (T.faults tablets.old name) (T.faults tablets.new name) }
     ensures opening { (name : ShardName) → result ≡ Status.OpenFault name → Rose (T.open_faults tablets.old name) (T.open_faults tablets.new name) }
+
+    // what stays, whatever the answer
+    ensures within { Takes (I.left input.old) (I.left input.new) IsWithinFrame }
+    ensures sent { Writes (O.sent output.old) (O.sent output.new) (λ written. Unit {0}) }
+    ensures input_later { I.faults input.old ≤ I.faults input.new }
+    ensures output_later { O.faults output.old ≤ O.faults output.new }
+    ensures goes_on { GoesOn T.cluster T.faults T.waits T.open_faults T.list_faults T.sound tablets.old tablets.new }
+    ensures gives_back { GivesAllBack (T.opened tablets.old) (T.returned tablets.old) (T.opened tablets.new) (T.returned tablets.new) }
+    ensures others { IfSome (I.left input.old) (KeepsUnasked T.faults T.waits T.open_faults tablets.old tablets.new) }
+    ensures clock { clock.new ≡ clock.old }
 {
     let Some(folder) = folder_of(words) else {
         return Status::Usage;

@@ -2,7 +2,6 @@ ghost use Rattle.std.specs.Prelude.{◌≡◌, ◌++◌, ◌∷◌, [], IfOk, If
 
 use crate::FileFeed;
 use crate::listing::{end_of, names_in};
-use crate::openings::Openings;
 use crate::path::file_path;
 use std::alloc::Global;
 use std::fs;
@@ -10,7 +9,7 @@ use std::fs::File;
 use std::io::{ErrorKind, Read};
 use std::rt::Files;
 use vs_base::{OutOfMemory, ShardName, Text};
-use vs_outside::{AskEnd, Feed, Opened, Tablets};
+use vs_outside::{AskEnd, Feed, Opened, Openings, Tablets};
 
 /// The logs of a folder. It tells no cluster, since files may change at any time.
 #[derive(Drop)]
@@ -91,11 +90,11 @@ fn push_copy(names: &mut Vec<ShardName>, alloc: Global, name: &ShardName) -> Res
 }
 
 impl<R: Files<File = File> + Alloc + Clone + Drop> Tablets for FolderTablets<R> {
-    ghost use Rattle.std.specs.Prelude.{None, false};
+    ghost use Rattle.std.specs.Prelude.{None, false, string_bytes};
     ghost use Rattle.std.proofs.Common.{sym};
     ghost use Rattle.std.proofs.lemmas.Bool.{true≢false};
     ghost use Rattle.vs_outside.specs.Memory.{failures_of};
-    ghost use Rattle.vs_host.specs.Openings.{opened_names, read_faults_of};
+    ghost use Rattle.vs_outside.specs.Openings.{faults_of, opened_names, returned_of, waits_of};
 
     type Feed = FileFeed;
 
@@ -103,20 +102,26 @@ impl<R: Files<File = File> + Alloc + Clone + Drop> Tablets for FolderTablets<R> 
 
     ghost opened = { λ t. opened_names t.openings.openings.items };
 
-    ghost faults = { λ t. read_faults_of t.openings.openings.items };
+    ghost returned = { λ t. returned_of t.openings.openings.items };
 
-    ghost waits = { λ _ _. 0 };
+    ghost faults = { λ t. faults_of t.openings.openings.items };
+
+    ghost waits = { λ t. waits_of t.openings.openings.items };
 
     ghost open_faults = { λ t. failures_of t.failed.items };
 
     ghost list_faults = { λ t. t.list_faults };
 
+    ghost folder = { λ t. string_bytes t.folder };
+
     ghost sound = { λ _. false };
 
     ghost below_last = { λ _ sound. absurd (true≢false (sym sound)) };
 
-    fn point(&mut self, alloc: Global, folder: &str) -> Result<(), OutOfMemory> {
-        self.folder = String::from_str(alloc, folder)?;
+    ghost within = { λ t. t.openings.within };
+
+    fn point(&mut self, alloc: Global, path: &str) -> Result<(), OutOfMemory> {
+        self.folder = String::from_str(alloc, path)?;
         Ok(())
     }
 
@@ -149,6 +154,6 @@ impl<R: Files<File = File> + Alloc + Clone + Drop> Tablets for FolderTablets<R> 
     }
 
     fn give_back(&mut self, name: &ShardName, feed: FileFeed) {
-        self.openings.add(name, feed.faults());
+        self.openings.add(name, feed.faults(), 0);
     }
 }

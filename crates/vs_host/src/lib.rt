@@ -7,7 +7,6 @@ mod clock;
 mod feed;
 mod folder;
 mod listing;
-mod openings;
 mod path;
 mod terminal;
 

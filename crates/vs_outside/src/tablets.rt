@@ -166,6 +166,8 @@ pub trait Tablets {
         ensures returned { returned self.new name.now ≡ returned self.old name.now + 1 }
         ensures faults { faults self.new name.now ≡ raised (Self.Feed.faults feed) (faults self.old name.now) }
         ensures waits { waits self.new name.now ≡ raised (Self.Feed.waits feed) (waits self.old name.now) }
+        ensures faults_later { NoneFell (faults self.old) (faults self.new) }
+        ensures waits_later { NoneFell (waits self.old) (waits self.new) }
         ensures other_returned { KeepsOthers name.now (returned self.old) (returned self.new) }
         ensures other_faults { KeepsOthers name.now (faults self.old) (faults self.new) }
         ensures other_waits { KeepsOthers name.now (waits self.old) (waits self.new) }

@@ -3,6 +3,7 @@ use Rattle.vs_outside.specs.Counts.{Rose}
 use Rattle.vs_command.specs.declared.status.Status.TheVariants.{Request}
 use Rattle.vs_command.proofs.AnswerLemmas.{headline_asked}
 use Rattle.vs_command.proofs.DueLemmas.{asked_told, comes_told, fault_told, faulty_once, not_faulty}
+use Rattle.vs_command.proofs.OutsideLemmas.{unasked_others}
 use Rattle.vs_command.proofs.StageLemmas.{stage_told}
 use Rattle.vs_command.proofs.connection.connection.Goals as goal
 
@@ -54,3 +55,8 @@ pub returns-in-Err-Fault-clause-request_when : goal.returns-in-Err-Fault-clause-
 returns-in-Err-Fault-clause-request_when g c other =
     let fault = c.in-Err-Fault.ensures.fault c.in-Err-Fault.fault (ap (λ e. Err e) c.in-Err-Fault.field-0-is) in
     rw c.in-Err-Fault.fault-is (faulty_once c.laws.ensures (g.I.Source.left c.args.input.now) c.in-Err-Fault.fault other fault)
+
+pub returns-in-Ok-clause-others : goal.returns-in-Ok-clause-others
+returns-in-Ok-clause-others g c =
+    unasked_others g.T.Tablets.faults g.T.Tablets.waits g.T.Tablets.open_faults (g.I.Source.left c.args.input.now) c.in-Ok.asked.name c.in-Ok.asked.start c.args.tablets.now c.stream_shard.new.tablets
+    c.in-Ok.ensures.asks c.stream_shard.ensures.others

@@ -1,6 +1,9 @@
-use Rattle.std.proofs.Common.{Err, ap, refl}
+use Rattle.std.proofs.Common.{◌≡◌, Err, None, ap, refl}
 use Rattle.std.specs.Prelude.{◌⊎◌}
+use Rattle.vs_outside.proofs.ToldLemmas.{Writes-weaken}
 use Rattle.vs_command.specs.declared.status.Status.TheVariants.{BadSchema}
+use Rattle.vs_command.specs.Fetched.{IsPlaced, read_as}
+use Rattle.vs_command.specs.Streaming.{IsStreamedFrom}
 use Rattle.vs_command.proofs.AnswerLemmas.{Writes-streamed, Writes-unread, told_always, told_so}
 use Rattle.vs_command.proofs.DueLemmas.{due_bad_schema, due_streamed, due_unknown}
 use Rattle.vs_command.proofs.connection.stream_shard.Goals as goal
@@ -60,3 +63,8 @@ pub returns-in-Err-FeedFault-clause-due : goal.returns-in-Err-FeedFault-clause-d
 returns-in-Err-FeedFault-clause-due g c =
     let opened = c.in-Err-FeedFault.ensures.feed_opened (ap (λ e. Err e) c.in-Err-FeedFault.field-0-is) in
     told_so _ _ (g.T.Tablets.cluster c.args.tablets.now) (λ k p. ◌⊎◌.inl (refl, p)) opened
+
+pub returns-in-Ok-Some-clause-sent : goal.returns-in-Ok-Some-clause-sent
+returns-in-Ok-Some-clause-sent g c =
+    Writes-weaken (λ w. IsStreamedFrom (IsPlaced c.in-Ok-Some.fetched.entries) c.args.asked.name (read_as c.in-Ok-Some.fetched) c.args.asked.start (c.in-Ok-Some.fetched.mark ≡ None) c.stream_log.result w)
+    (λ w. Unit {0}) (g.O.Sink.sent c.args.output.now) (g.O.Sink.sent c.stream_log.new.output) (λ w streamed. tt) c.stream_log.ensures.wrote

@@ -4,6 +4,7 @@ use Rattle.vs_command.specs.Causes.{IsDue, IsOutside}
 use Rattle.vs_command.specs.Stages.{IsBrought, stage}
 use Rattle.vs_command.specs.declared.status.Status.TheVariants.{BadSchema, Done, UnknownShard, Purged, BadLog, PositionTooLarge}
 use Rattle.vs_command.proofs.AnswerLemmas.{headline_told}
+use Rattle.vs_command.proofs.OutsideLemmas.{keeps_pointed, unasked_then}
 use Rattle.vs_command.proofs.run.run.Goals as goal
 
 pub returns-clause-headline : goal.returns-clause-headline
@@ -51,3 +52,9 @@ pub returns-clause-stage : goal.returns-clause-stage
 returns-clause-stage g c folder status words =
     subst (λ t. IfSome t (λ k. IfSome (g.I.Source.left c.args.input.now) (λ input. IsDue k input status → stage c.connection.result ≤ stage status)))
     c.point.ensures.cluster (c.connection.ensures.stage status)
+
+pub returns-clause-others : goal.returns-clause-others
+returns-clause-others g c =
+    unasked_then g.T.Tablets.faults g.T.Tablets.waits g.T.Tablets.open_faults (g.I.Source.left c.args.input.now) c.args.tablets.now c.point.new.self c.connection.new.tablets
+    (keeps_pointed g.T.Tablets.faults g.T.Tablets.waits g.T.Tablets.open_faults c.args.tablets.now c.point.new.self c.point.ensures.faults c.point.ensures.waits c.point.ensures.open_faults)
+    c.connection.ensures.others

@@ -1,4 +1,4 @@
-use Rattle.vs_host.proofs.OpeningLemmas.{failures_of-rose}
+use Rattle.vs_outside.proofs.MemoryLemmas.{failures_of-rose}
 use Rattle.vs_host.proofs.folder.FolderTabletsTablets.open_log.Goals as goal
 
 pub returns-in_ok-push_copy-in-Err-Failed-clause-failed : goal.returns-in_ok-push_copy-in-Err-Failed-clause-failed
