@@ -46,3 +46,8 @@ StandsBeforeFirst i (j ∷ rest) = StandsBefore i j
 abbrev pub IsCanonical : Position → Type 0
 IsCanonical [] = Unit {0}
 IsCanonical (i ∷ rest) = IsInterval i × StandsBeforeFirst i rest × IsCanonical rest
+
+-- the intervals of a set: in the one order, and not too many
+pub record IsPosition (p : Position) : Type 0 where
+  pub canonical : IsCanonical p
+  pub few : length p ≤ 1024

@@ -12,7 +12,7 @@ ghost use Rattle.vs_gtid.specs.Block.{
   spans_at,
   uuid_at,
 };
-ghost use Rattle.vs_gtid.specs.Positions.{IsInterval};
+ghost use Rattle.vs_gtid.specs.Positions.{IsInterval, IsPosition};
 
 use crate::merge::merge;
 use crate::{GtidRefusal, GtidSet, Interval};
@@ -25,7 +25,8 @@ impl GtidSet {
     /// of intervals, and per interval its first number and the number behind its last. Each number
     /// has eight bytes, the lowest first. UUIDs and intervals may stand in any order and overlap.
     pub fn from_block(alloc: Global, body: &[u8]) -> Result<GtidSet, GtidRefusal>
-        ensures { (result ≡ Err GtidRefusal.Memory) ⊎ (result ≡ block_of body.now) }
+        ensures block { (result ≡ Err GtidRefusal.Memory) ⊎ (result ≡ block_of body.now) }
+        ensures position { IfOk result (λ s. IsPosition s) }
     {
         let Some(count) = read_number(body, 0) else {
             return Err(GtidRefusal::BadBlock { at: 0 });

@@ -3,7 +3,7 @@ ghost use Rattle.std.specs.Prelude.{◌≡◌, ◌<◌, ◌↔◌, true, false, 
 ghost use Rattle.std.specs.List.{HoldsAt};
 ghost use Rattle.vs_base.specs.declared.gtid.Gtid.{Gtid};
 ghost use Rattle.vs_gtid.specs.Missing.{IsFirstMissing};
-ghost use Rattle.vs_gtid.specs.Positions.{has, is_within, IsCanonical, IsInterval, IsSubset};
+ghost use Rattle.vs_gtid.specs.Positions.{has, is_within, IsCanonical, IsInterval, IsPosition, IsSubset};
 
 use crate::{GtidSet, Interval};
 use vs_base::Gtid;
@@ -11,14 +11,18 @@ use vs_base::Gtid;
 impl GtidSet {
     /// Whether each GTID of this set is in the other.
     pub fn is_subset(&self, other: &GtidSet) -> bool
-        ensures { IsTrue result ↔ IsSubset self.now other.now }
+        ensures subset { IsTrue result ↔ IsSubset self.now other.now }
+        ensures left { IsPosition self.now }
+        ensures right { IsPosition other.now }
     {
         self.first_missing(other).is_none()
     }
 
     /// The least GTID of this set that the other lacks, by UUID bytes and then by number.
     pub fn first_missing(&self, other: &GtidSet) -> Option<Gtid>
-        ensures { MatchOption result (IsSubset self.now other.now) (λ g. IsFirstMissing self.now other.now g) }
+        ensures missing { MatchOption result (IsSubset self.now other.now) (λ g. IsFirstMissing self.now other.now g) }
+        ensures left { IsPosition self.now }
+        ensures right { IsPosition other.now }
     {
         missing_of(self.intervals.as_slice(), other.intervals.as_slice())
     }

@@ -3,7 +3,7 @@ ghost use Rattle.std.specs.Prelude.{◌≡◌, ◌<◌, ◌⊎◌, ◌||◌, len
 ghost use Rattle.vs_base.specs.declared.gtid.Gtid.{Gtid};
 ghost use Rattle.vs_gtid.specs.declared.interval.Interval.{Interval};
 ghost use Rattle.vs_gtid.specs.Joins.{joined, limited, merged, AreInOrder, LastBeginsBy};
-ghost use Rattle.vs_gtid.specs.Positions.{has, is_within, IsCanonical, IsInterval, SameSet};
+ghost use Rattle.vs_gtid.specs.Positions.{has, is_within, IsCanonical, IsInterval, IsPosition, SameSet};
 
 use crate::{GtidRefusal, GtidSet, Interval};
 use std::alloc::Global;
@@ -11,7 +11,8 @@ use std::alloc::Global;
 /// The set of the GTIDs of all the intervals, which may stand in any order and overlap.
 pub(crate) fn merge(alloc: Global, mut intervals: Vec<Interval>) -> Result<GtidSet, GtidRefusal>
     requires { All IsInterval intervals.items }
-    ensures { (result ≡ Err GtidRefusal.Memory) ⊎ (result ≡ limited (merged intervals.items)) }
+    ensures merged { (result ≡ Err GtidRefusal.Memory) ⊎ (result ≡ limited (merged intervals.items)) }
+    ensures position { IfOk result (λ s. IsPosition s) }
 {
     intervals.sort_unstable();
     let merged = merge_sorted(alloc, intervals.as_slice())?;

@@ -1,7 +1,7 @@
 //! The set that a text says.
 ghost use Rattle.std.specs.Prelude.{◌≡◌, ◌⊎◌, ◌≤◌, IfErr, IfOk, Result, length};
 ghost use Rattle.vs_gtid.specs.declared.refusal.GtidRefusal.{GtidRefusal};
-ghost use Rattle.vs_gtid.specs.Positions.{IsCanonical, Position};
+ghost use Rattle.vs_gtid.specs.Positions.{IsCanonical, IsPosition, Position};
 ghost use Rattle.vs_gtid.specs.Readings.{
   empty_at,
   fault_of,
@@ -29,13 +29,15 @@ impl GtidSet {
         ensures reads { (result ≡ Err GtidRefusal.Memory) ⊎ Reads text.now result }
         ensures only { (r : Result Position GtidRefusal) → Reads text.now r → (result ≡ Err GtidRefusal.Memory) ⊎ (result ≡ r) }
         ensures printed { (p : Position) → IsCanonical p → length p ≤ 1024 → (text.now ≡ set_text p) ⊎ (text.now ≡ position_text p) → (result ≡ Err GtidRefusal.Memory) ⊎ (result ≡ Ok p) }
+        ensures position { IfOk result (λ s. IsPosition s) }
     {
         read_set(alloc, text)
     }
 }
 
 fn read_set(alloc: Global, text: &[u8]) -> Result<GtidSet, GtidRefusal>
-    ensures { (result ≡ Err GtidRefusal.Memory) ⊎ (result ≡ read text.now) }
+    ensures read { (result ≡ Err GtidRefusal.Memory) ⊎ (result ≡ read text.now) }
+    ensures position { IfOk result (λ s. IsPosition s) }
 {
     let scan = scan_text(alloc, text)?;
     if let Some(refusal) = fault_of(scan.spans.as_slice(), scan.stop) {

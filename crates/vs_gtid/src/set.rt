@@ -14,24 +14,25 @@ pub struct GtidSet {
 }
 
 impl Model for GtidSet {
-    ghost use Rattle.std.specs.Prelude.{List, ◌≤◌, length};
+    ghost use Rattle.std.specs.Prelude.{List};
     ghost use Rattle.vs_gtid.specs.declared.interval.Interval.{Interval};
-    ghost use Rattle.vs_gtid.specs.Positions.{IsCanonical};
+    ghost use Rattle.vs_gtid.specs.Positions.{IsPosition};
 
     ghost Value = { List Interval };
 
     ghost view = { λ s. s.intervals.items };
 
-    ghost invariant = { λ s. IsCanonical s.intervals.items × (length s.intervals.items ≤ 1024) };
+    ghost invariant = { λ s. IsPosition s.intervals.items };
 }
 
 impl GtidSet {
     ghost use Rattle.vs_gtid.specs.Joins.{added};
-    ghost use Rattle.vs_gtid.specs.Positions.{IsCanonical, has};
+    ghost use Rattle.vs_gtid.specs.Positions.{IsCanonical, IsPosition, has};
 
     /// The empty set.
     pub fn new(alloc: Global) -> GtidSet
-        ensures { result ≡ [] }
+        ensures empty { result ≡ [] }
+        ensures position { IsPosition result }
     {
         GtidSet {
             intervals: Vec::new(alloc),
@@ -41,7 +42,8 @@ impl GtidSet {
     /// Whether the GTID is in the set.
     #[tactic(auto, unfolding(crate::specs::Positions::has))]
     pub fn contains(&self, gtid: &Gtid) -> bool
-        ensures { result ≡ has self.now gtid.now }
+        ensures has { result ≡ has self.now gtid.now }
+        ensures position { IsPosition self.now }
     {
         self.intervals
             .iter()
@@ -58,7 +60,8 @@ impl GtidSet {
     }
 
     pub fn copy(&self, alloc: Global) -> Result<GtidSet, OutOfMemory>
-        ensures { IfOk result (λ s. s ≡ self.now) }
+        ensures same { IfOk result (λ s. s ≡ self.now) }
+        ensures position { IfOk result (λ s. IsPosition s) }
     {
         Ok(GtidSet {
             intervals: Vec::from_slice(alloc, self.intervals.as_slice())?,
@@ -71,6 +74,8 @@ impl GtidSet {
         ensures err { OnErr result (self.new ≡ self.old) }
         ensures too_many { (result ≡ Err GtidRefusal.TooManyIntervals) ↔ (1024 < length (added self.old gtid)) }
         ensures refusals { IfErr result (λ e. (e ≡ GtidRefusal.TooManyIntervals) ⊎ (e ≡ GtidRefusal.Memory)) }
+        ensures before { IsPosition self.old }
+        ensures position { IsPosition self.new }
     {
         add_to(&mut self.intervals, gtid)
     }

@@ -1,5 +1,6 @@
 //! The printed text of a set.
 ghost use Rattle.std.specs.Prelude.{◌≡◌, ◌++◌, decimal, OnErr, OnOk};
+ghost use Rattle.vs_gtid.specs.Positions.{IsPosition};
 ghost use Rattle.vs_gtid.specs.Text.{next_text, opening_text, set_text, span_text};
 
 use crate::{GtidSet, Interval, OutOfMemory};
@@ -13,6 +14,7 @@ impl GtidSet {
     pub fn put_text(&self, alloc: Global, out: &mut Vec<u8>) -> Result<(), OutOfMemory>
         ensures ok { OnOk result (out.new.items ≡ out.old.items ++ set_text self.now) }
         ensures err { OnErr result (out.new.items ≡ out.old.items) }
+        ensures position { IsPosition self.now }
     {
         let mut text = Vec::new(alloc);
         put_set(self.intervals.as_slice(), &mut text)?;

@@ -54,6 +54,13 @@ gives_back-once opened returned later name more others n = go (same_name name n)
         let long : times n (opened ++ name ∷ []) ≡ times n opened + 0 = times-push opened name n ∙ ap (λ b. times n opened + cond b 1 0) other in
         omega arith
 
+-- the same with what each call says: one opens the log, and a later one gives the feed back
+pub opened_and_returned : (opened longer : List ShardName) (returned between later : ShardName → ℕ) (name : ShardName) → longer ≡ opened ++ name ∷ [] → KeepsCounts returned between →
+    later name ≡ between name + 1 → KeepsOthers name between later → GivesAllBack opened returned longer later
+opened_and_returned opened longer returned between later name is kept more others =
+    let once = gives_back-once opened returned later name (more ∙ ap (λ m. m + 1) (kept name)) (λ n other. others n other ∙ kept n) in
+    λ n. ap (λ l. times n l + returned n) is ∙ once n
+
 pub gives_back-joined : (a : List ShardName) (r : ShardName → ℕ) (b : List ShardName) (s : ShardName → ℕ) (c : List ShardName) (t : ShardName → ℕ) →
     GivesAllBack a r b s → GivesAllBack b s c t → GivesAllBack a r c t
 gives_back-joined a r b s c t first second n = let p = first n in let q = second n in omega arith

@@ -79,8 +79,8 @@ module _ (openings : List Opening) (name : ShardName) (place : ℕ) (held change
       let both = sums f n in
       omega arith
 
-  pub count_of-given : (f : Opening → ℕ) → min (sum_of f (set openings place changed) name) (2 ^ 64 - 1) ≡ raised (f changed) (min (sum_of f openings name) (2 ^ 64 - 1))
-  count_of-given f = raised-sum (sum_of f openings name) _ (f changed) (sum_of-given f)
+  pub count_of-given : (f : Opening → ℕ) (more : ℕ) → f changed ≡ more → min (sum_of f (set openings place changed) name) (2 ^ 64 - 1) ≡ raised more (min (sum_of f openings name) (2 ^ 64 - 1))
+  count_of-given f more is_more = raised-sum (sum_of f openings name) _ more (sum_of-given f ∙ ap (λ n. sum_of f openings name + n) is_more)
 
   pub count_of-other : (f : Opening → ℕ) (n : ShardName) → same_name name n ≡ false →
       min (sum_of f (set openings place changed) n) (2 ^ 64 - 1) ≡ min (sum_of f openings n) (2 ^ 64 - 1)
@@ -142,9 +142,9 @@ pushed_is_out openings new name out is =
     omega arith
 
 -- where no fault comes and there was none, there is none
-pub no_faults-add : (before now : ShardName → ℕ) (name : ShardName) (more : ℕ) → more ≡ 0 → now name ≡ raised more (before name) → KeepsOthers name before now →
+pub no_faults-add : (before now : ShardName → ℕ) (name : ShardName) (more : ℕ) → now name ≡ raised more (before name) → more ≡ 0 → KeepsOthers name before now →
     ((n : ShardName) → before n ≡ 0) → (n : ShardName) → now n ≡ 0
-no_faults-add before now name more none added others zeros n = go (same_name name n) refl
+no_faults-add before now name more added none others zeros n = go (same_name name n) refl
   where
     go : (b : Bool) → same_name name n ≡ b → now n ≡ 0
     go true same = ap now (sym (same_name-is name n same)) ∙ added ∙ ap (λ k. raised k (before name)) none ∙ ap (raised 0) (zeros name)

@@ -15,6 +15,22 @@ pub struct Opening {
     pub waits: u64,
 }
 
+impl Opening {
+    ghost use Rattle.std.specs.Prelude.{◌≡◌, true};
+
+    /// The feed is given back, and had counted this.
+    fn close(&mut self, faults: u64, waits: u64)
+        ensures name { self.new.name ≡ self.old.name }
+        ensures returned { self.new.returned ≡ true }
+        ensures faults { self.new.faults ≡ faults }
+        ensures waits { self.new.waits ≡ waits }
+    {
+        self.returned = true;
+        self.faults = faults;
+        self.waits = waits;
+    }
+}
+
 /// The logs that tablets opened, oldest first, with the counts of each name's feeds that were
 /// given back: how many, their faults and their waits.
 #[derive(Debug, Drop)]
@@ -80,9 +96,6 @@ impl Openings {
         let Some(place) = self.place_out(name) else {
             return;
         };
-        let opening = &mut self.openings[place];
-        opening.returned = true;
-        opening.faults = faults;
-        opening.waits = waits;
+        self.openings[place].close(faults, waits);
     }
 }

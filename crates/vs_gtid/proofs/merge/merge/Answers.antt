@@ -24,12 +24,12 @@ whole c =
     merged_in_order c.args.intervals.items c.sort_unstable.new.self.items c.in_ok-merged.merged.items c.requires c.sort_unstable.ensures.permutation h.canonical
     (subst (λ (is : List Interval). SameSet c.in_ok-merged.merged.items is) c.as_slice.ensures.value h.members)
 
-pub returns-then-len-gt1024 : goal.returns-then-len-gt1024
-returns-then-len-gt1024 c =
-    let e = whole ((goal.at.returns-then-len-gt1024 c).In_ok-merged) in
+pub returns-then-len-gt1024-clause-merged : goal.returns-then-len-gt1024-clause-merged
+returns-then-len-gt1024-clause-merged c =
+    let e = whole ((goal.at.returns-then-len-gt1024-clause-merged c).In_ok-merged) in
     inr (sym (limited_many (merged c.args.intervals.items) (subst (λ (p : Position). 1024 < length p) e (omega arith))))
 
-pub returns : goal.returns
-returns c =
-    let e = whole ((goal.at.returns c).In_ok-merged) in
+pub returns-clause-merged : goal.returns-clause-merged
+returns-clause-merged c =
+    let e = whole ((goal.at.returns-clause-merged c).In_ok-merged) in
     inr (sym (ap limited (sym e) ∙ limited_few c.in_ok-merged.merged.items (omega arith)))

@@ -24,10 +24,10 @@ merge-requires c =
     let text = c.args.text.now in
     subst (λ (is : List Interval). All IsInterval is) (sym (merged_of c)) (lawful_intervals text (scanned text).spans (no_fault text (sound_fault c)))
 
-pub returns : goal.returns
-returns c =
-    let before = (goal.at.returns c).In_ok-intervals_of in
-    elim c.merge.ensures [
+pub returns-clause-read : goal.returns-clause-read
+returns-clause-read c =
+    let before = (goal.at.returns-clause-read c).In_ok-intervals_of in
+    elim c.merge.ensures.merged [
       | inl m ↦ inl m
       | inr h ↦ inr (h ∙ (ap (λ (is : List Interval). limited (merged is)) (merged_of before) ∙ sym (read_merged c.args.text.now (sound_fault before))))
     ]

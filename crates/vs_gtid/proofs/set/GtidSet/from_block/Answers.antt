@@ -8,8 +8,8 @@ use Rattle.vs_gtid.specs.declared.refusal.GtidRefusal.{GtidRefusal}
 use Rattle.vs_gtid.specs.declared.refusal.GtidRefusal.TheVariants.{Memory}
 use Rattle.vs_gtid.proofs.set.GtidSet.from_block.Goals as goal
 
-pub returns-in_default : goal.returns-in_default
-returns-in_default c =
+pub returns-in_default-clause-block : goal.returns-in_default-clause-block
+returns-in_default-clause-block c =
     let e = c.in_default.ensures.number in
     inr (sym (block_cut c.args.body.now e))
 
@@ -18,8 +18,8 @@ from_empty : (body : List ℕ) (count : ℕ) (start : List Interval) (r : Result
     r ≡ both (Ok start) (groups_at count body 8) → set_of r ≡ block_of body
 from_empty body count start r e n h = block_read body count r n (h ∙ ap (λ (is : List Interval). both (Ok is) (groups_at count body 8)) e)
 
-pub returns-in_err-read_groups : goal.returns-in_err-read_groups
-returns-in_err-read_groups c =
+pub returns-in_err-read_groups-clause-block : goal.returns-in_err-read_groups-clause-block
+returns-in_err-read_groups-clause-block c =
     let p = err_from_is_err_and c.from_residual.result c.from_residual.ensures.1 in
     rw (p.1, p.2)
     (elim c.in_err-read_groups.ensures.groups [
@@ -27,11 +27,11 @@ returns-in_err-read_groups c =
       | inr h ↦ inr (from_empty c.args.body.now c.in-Some.count c.new-intervals.result.items (Err c.in_err-read_groups.field-0.0) c.new-intervals.ensures.items c.in-Some.ensures.number h)
     ])
 
-pub returns : goal.returns
-returns c =
+pub returns-clause-block : goal.returns-clause-block
+returns-clause-block c =
     let whole : set_of (Ok c.read_groups.new.intervals.items) ≡ block_of c.args.body.now =
     elim c.in_ok-read_groups.ensures.groups [
       | inl m ↦ absurd (not_refused (Unit {0}) c.in_ok-read_groups.field-0 Memory m)
       | inr h ↦ from_empty c.args.body.now c.in-Some.count c.new-intervals.result.items (Ok c.read_groups.new.intervals.items) c.new-intervals.ensures.items c.in-Some.ensures.number h
     ] in
-    elim c.merge.ensures [ inl m ↦ inl m | inr h ↦ inr (h ∙ whole) ]
+    elim c.merge.ensures.merged [ inl m ↦ inl m | inr h ↦ inr (h ∙ whole) ]

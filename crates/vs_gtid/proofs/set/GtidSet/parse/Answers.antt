@@ -18,7 +18,7 @@ pub returns : goal.returns
 returns c =
     let text = c.args.text.now in
     let r = c.read_set.result in
-    let h = c.read_set.ensures in
+    let h = c.read_set.ensures.read in
     record {
       reads = elim h [ inl m ↦ inl m | inr e ↦ inr (subst (λ (s : Answer). Reads text s) (sym e) (reads text)) ];
       only = λ s k. or_memory text r s h k;
@@ -26,4 +26,5 @@ returns c =
         | inl plain ↦ subst (λ (t : List ℕ). Reads t (Ok p)) (sym plain) (printed [] p (inl refl) canonical few)
         | inr prefixed ↦ subst (λ (t : List ℕ). Reads t (Ok p)) (sym prefixed) (printed prefix p (inr refl) canonical few)
       ]);
+      position = c.read_set.ensures.position;
     }

@@ -10,7 +10,7 @@ invariant_of-self c = record {
   quiet = λ quiet.
       let none = c.args.self.now.quiet quiet in
       let feed_none = c.faults.ensures ∙ has_no_faults (has_no_failure c.args.feed.script.items) c.args.feed.faults (c.requires.sound quiet) in
-      (no_faults-add (faults_of c.args.self.now.openings.openings.items) (faults_of c.add.new.self.openings.items) c.args.name.now c.faults.result feed_none c.add.ensures.faults c.add.ensures.other_faults none.0, none.1, none.2);
+      (no_faults-add (faults_of c.args.self.now.openings.openings.items) (faults_of c.add.new.self.openings.items) c.args.name.now _ c.add.ensures.faults (omega (arith, feed_none)) c.add.ensures.other_faults none.0, none.1, none.2);
 }
 
 pub returns-clause-faults_later : goal.returns-clause-faults_later
