@@ -67,8 +67,6 @@ fn send_entry<O: Sink>(
         Err(GtidRefusal::TooManyIntervals) => return Err(SendEnd::PositionTooLarge),
         Err(_) => return Err(SendEnd::Memory),
     }
-    // The call also tells the proof that the position is canonical.
-    let _count = position.intervals();
     let Ok(frame) = entry_frame(alloc, name, entry, position) else {
         return Err(SendEnd::Memory);
     };

@@ -107,8 +107,6 @@ pub fn stream_log<O: Sink>(
     let Ok(start) = position_of(alloc, start, &fetched) else {
         return Status::Memory;
     };
-    // The call also tells the proof that the position is canonical.
-    let _count = start.intervals();
     if let Some(missing) = fetched.base.first_missing(&start) {
         return Status::Purged { name, missing };
     }

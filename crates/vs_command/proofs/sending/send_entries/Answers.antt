@@ -20,7 +20,7 @@ returns-in_default-clause-wrote g c =
 pub returns-then-not-is_built-clause-wrote : goal.returns-then-not-is_built-clause-wrote
 returns-then-not-is_built-clause-wrote g c =
     let inside : c.loop-placed.placed-index < length c.args.entries.now = omega arith in
-    let lacks : has c.args.start.now c.placed-item.result.entry.gtid ≡ false = sym c.contains.ensures ∙ c.if-contains.false in
+    let lacks : has c.args.start.now c.placed-item.result.entry.gtid ≡ false = sym c.contains.ensures.has ∙ c.if-contains.false in
     let unbuilt : is_built c.placed-item.result.entry.work ≡ false = sym c.is_built.ensures ∙ c.if-not-is_built.true in
     let are = lacking_of-split c.args.start.now c.args.entries.now c.loop-placed.placed-index c.placed-item.result inside c.placed-item.is lacks in
     subst (λ es. Writes (g.O.Sink.sent c.args.output.now) (g.O.Sink.sent c.loop-placed.output) (λ w. AreSent (IsPlaced c.args.entries.now) c.args.name.now c.args.start.now es (Err (NotBuilt c.placed-item.result.at)) w)) (sym are)
@@ -31,7 +31,7 @@ returns-then-not-is_built-clause-wrote g c =
 pub returns-then-not-is_built-clause-unbuilt : goal.returns-then-not-is_built-clause-unbuilt
 returns-then-not-is_built-clause-unbuilt g c at told =
     let inside : c.loop-placed.placed-index < length c.args.entries.now = omega arith in
-    let lacks : has c.args.start.now c.placed-item.result.entry.gtid ≡ false = sym c.contains.ensures ∙ c.if-contains.false in
+    let lacks : has c.args.start.now c.placed-item.result.entry.gtid ≡ false = sym c.contains.ensures.has ∙ c.if-contains.false in
     let unbuilt : is_built c.placed-item.result.entry.work ≡ false = sym c.is_built.ensures ∙ c.if-not-is_built.true in
     let same : c.placed-item.result.at ≡ at = cc in
     subst (λ n. StopsAtUnbuilt (IsPlaced c.args.entries.now) c.args.start.now (lacking c.args.start.now (entries_of c.args.entries.now)) n) same
@@ -41,7 +41,7 @@ pub returns-in_err-send_entry-clause-wrote : goal.returns-in_err-send_entry-clau
 returns-in_err-send_entry-clause-wrote g c =
     let p = err_from_is_err_and c.from_residual.result c.from_residual.ensures.1 in
     let inside : c.loop-placed.placed-index < length c.args.entries.now = omega arith in
-    let lacks : has c.args.start.now c.placed-item.result.entry.gtid ≡ false = sym c.contains.ensures ∙ c.if-contains.false in
+    let lacks : has c.args.start.now c.placed-item.result.entry.gtid ≡ false = sym c.contains.ensures.has ∙ c.if-contains.false in
     let are = lacking_of-split c.args.start.now c.args.entries.now c.loop-placed.placed-index c.placed-item.result inside c.placed-item.is lacks in
     let cut = Writes-cut_entry (IsPlaced c.args.entries.now) c.args.name.now c.args.start.now c.loop-placed.position (lacking c.args.start.now (entries_of (take c.loop-placed.placed-index c.args.entries.now)))
     (lacking c.args.start.now (entries_of (drop (suc c.loop-placed.placed-index) c.args.entries.now))) c.placed-item.result.entry c.in_err-send_entry.field-0.0 _ _ _
@@ -52,7 +52,7 @@ returns-in_err-send_entry-clause-wrote g c =
 pub loop-placed-preserved : goal.loop-placed-preserved
 loop-placed-preserved g c =
     let inside : c.loop-placed.placed-index < length c.args.entries.now = omega arith in
-    let lacks : has c.args.start.now c.placed-item.result.entry.gtid ≡ false = sym c.contains.ensures ∙ c.if-contains.false in
+    let lacks : has c.args.start.now c.placed-item.result.entry.gtid ≡ false = sym c.contains.ensures.has ∙ c.if-contains.false in
     let built : is_built c.placed-item.result.entry.work ≡ true = sym c.is_built.ensures ∙ c.if-not-is_built.false in
     let front : List Entry = lacking c.args.start.now (entries_of (take c.loop-placed.placed-index c.args.entries.now)) in
     let more : lacking c.args.start.now (entries_of (take (c.loop-placed.placed-index + 1) c.args.entries.now)) ≡ front ++ c.placed-item.result.entry ∷ [] =
@@ -71,7 +71,7 @@ pub returns-in_err-send_entry-clause-large : goal.returns-in_err-send_entry-clau
 returns-in_err-send_entry-clause-large g c large =
     let p = err_from_is_err_and c.from_residual.result c.from_residual.ensures.1 in
     let inside : c.loop-placed.placed-index < length c.args.entries.now = omega arith in
-    let lacks : has c.args.start.now c.placed-item.result.entry.gtid ≡ false = sym c.contains.ensures ∙ c.if-contains.false in
+    let lacks : has c.args.start.now c.placed-item.result.entry.gtid ≡ false = sym c.contains.ensures.has ∙ c.if-contains.false in
     let built : is_built c.placed-item.result.entry.work ≡ true = sym c.is_built.ensures ∙ c.if-not-is_built.false in
     let is : Err p.0 ≡ Err PositionTooLarge = sym p.1 ∙ large in
     let same : c.in_err-send_entry.field-0.0 ≡ PositionTooLarge = cc in
