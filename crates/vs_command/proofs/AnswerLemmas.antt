@@ -28,7 +28,9 @@ use Rattle.vs_command.specs.Sending.{IsNextTooLarge, vector_at, position_after, 
 use Rattle.vs_command.specs.Built.{AreBuilt, IsNextUnbuilt}
 use Rattle.vs_command.specs.Fetched.{IsFetchedOf, IsOfShard, IsPlaced, read_as}
 use Rattle.vs_entries.specs.Laws.{AreNoJournals}
-use Rattle.vs_command.specs.Laws.{LawOfNewGtids, Laws}
+use Rattle.vs_command.specs.Laws.{Laws}
+use Rattle.vs_log.specs.Laws.{AlwaysNewGtids}
+use Rattle.vs_rows.specs.Tables.{Tables}
 use Rattle.vs_command.specs.Requests.{Asks}
 use Rattle.vs_command.specs.Streaming.Headline.{asked, silent}
 use Rattle.vs_command.specs.Streaming.Outcome.{unread, answers}
@@ -50,7 +52,7 @@ log_of-meant (x ∷ cluster) s shard h = go (same_name x.name s) (λ found. log_
         ap (λ n. shard_log n x.schema x.log) (same_name-is x.name s e) ∙ ap (λ (y : Shard). shard_log s y.schema y.log) it
     go false later e found = later found
 
-distinct_meant : LawOfNewGtids → (cluster : ClusterBytes) → LogsAreDistinct (cluster_meant cluster)
+distinct_meant : AlwaysNewGtids Tables → (cluster : ClusterBytes) → LogsAreDistinct (cluster_meant cluster)
 distinct_meant law [] s = tt
 distinct_meant law (x ∷ cluster) s = either (same_name x.name s) (shard_log x.name x.schema x.log) (log_of (cluster_meant cluster) s) (law (shard_rules x.name x.schema) x.log).distinct (distinct_meant law cluster s)
   where

@@ -26,7 +26,7 @@ use Rattle.vs_model.specs.Legal.{AllCopiedFollows, NoParticipantStands}
 use Rattle.vs_model.specs.Steps.{SendsTx, Steps}
 use Rattle.vs_command.specs.Sending.{vector_at, position_after, entry_frames, IsCanonicalAlong}
 use Rattle.vs_entries.specs.Laws.{AreNoJournals}
-use Rattle.vs_command.specs.Laws.{LawOfTransactions, LawOfDue}
+use Rattle.vs_model.specs.Laws.{DueGoesOn, TransactionsAreSteps}
 use Rattle.vs_command.proofs.BuiltLemmas.{kept}
 use Rattle.vs_command.specs.Streaming.{takes_all}
 
@@ -94,7 +94,7 @@ sends cluster s p e rest built first base canonical = record {
   foreign = not_foreign s (vector_at s p) e.work built;
 }
 
-pub steps_sent : LawOfTransactions → LawOfDue → (cluster : Cluster) (s : ShardName) → LogsAreDistinct cluster → (p : Position) (sent rest : List Entry) →
+pub steps_sent : TransactionsAreSteps → DueGoesOn → (cluster : Cluster) (s : ShardName) → LogsAreDistinct cluster → (p : Position) (sent rest : List Entry) →
     AreBuilt sent → due s (log_of cluster s) p ≡ sent ++ rest → (sent ≡ []) ⊎ IsSubset (log_of cluster s).base p → IsCanonicalAlong p sent →
     Steps cluster takes_all (vector_at s p) (entry_frames s p sent)
 steps_sent tx due_law cluster s distinct p [] rest built are base canonical = tt

@@ -1,14 +1,21 @@
 ghost use Rattle.std.specs.Prelude.{◌≡◌, ◌∷◌, ◌++◌, ℕ, List, []};
-ghost use Rattle.vs_frame.specs.Frames.{Begins, HasNone, IsGiven, IsPart, IsTooLong};
+ghost use Rattle.vs_frame.specs.Frames.{Begins, HasNone, IsGiven};
+ghost use Rattle.vs_frame.specs.Laws.{
+  HasOneFrame,
+  HasOneLength,
+  PartIsNoFrame,
+  PartIsNotTooLong,
+  TooLongIsNoFrame,
+};
 
 /// What stands at the front of some bytes is one of three: less than a frame, one frame and one
 /// rest, or one length over the limit.
 pub fn law_front()
-    ensures part { (bytes : List ℕ) → IsPart bytes → HasNone bytes }
-    ensures part_fits { (bytes : List ℕ) (n : ℕ) → IsPart bytes → ¬ (IsTooLong bytes n) }
-    ensures too_long { (bytes : List ℕ) (n : ℕ) → IsTooLong bytes n → HasNone bytes }
-    ensures one_length { (bytes : List ℕ) (n m : ℕ) → IsTooLong bytes n → IsTooLong bytes m → n ≡ m }
-    ensures one_frame { (bytes m n rest left : List ℕ) → Begins bytes m rest → Begins bytes n left → (m ≡ n) × (rest ≡ left) }
+    ensures part { PartIsNoFrame }
+    ensures part_fits { PartIsNotTooLong }
+    ensures too_long { TooLongIsNoFrame }
+    ensures one_length { HasOneLength }
+    ensures one_frame { HasOneFrame }
 {}
 
 /// However the bytes are cut into pieces, the messages given are the first ones of all bytes fed,

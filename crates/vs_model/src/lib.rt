@@ -14,9 +14,10 @@ ghost use Rattle.vs_gtid.specs.declared.JournalValue.{JournalValue};
 ghost use Rattle.vs_model.specs.Copies.{ChangesFit, IsOrdered, KeepsKeys, client_row, copied_row};
 ghost use Rattle.vs_model.specs.Copy.{Bound, Filter, changes_in, front, picked};
 ghost use Rattle.vs_model.specs.Core.{AreGiven, AreLanes, Core, CoreRun, HasAllCopied, Piece, PlaceAfter};
-ghost use Rattle.vs_model.specs.Frames.Frame.{AllCopied, Beat, Halt, Switch, Tx};
+ghost use Rattle.vs_model.specs.Frames.Frame.{AllCopied, Beat, Halt, Switch};
 ghost use Rattle.vs_model.specs.Frames.{Frame, frames_of, last_vector, vectors_along};
-ghost use Rattle.vs_model.specs.Legal.{AllCopiedFollows, HasGathered, Legal, NoneCopies};
+ghost use Rattle.vs_model.specs.Laws.{DueGoesOn, StepsAreLegal, StopStays, TransactionsAreSteps};
+ghost use Rattle.vs_model.specs.Legal.{HasGathered, Legal, NoneCopies};
 ghost use Rattle.vs_model.specs.Logs.{
   Cluster,
   HaveDistinctGtids,
@@ -31,14 +32,13 @@ ghost use Rattle.vs_model.specs.Logs.{
 ghost use Rattle.vs_model.specs.Names.{Position, is_in};
 ghost use Rattle.vs_model.specs.Reached.{HasAllDue, IsFinal, IsSettled, StartsAreUnique, StartsToStream, start_of};
 ghost use Rattle.vs_model.specs.Requests.{by_shard, is_of, shards_of};
-ghost use Rattle.vs_model.specs.Steps.{AreFirstDue, SendsCopy, SendsTx, Step, Steps};
+ghost use Rattle.vs_model.specs.Steps.{AreFirstDue, SendsCopy, Step, Steps};
 ghost use Rattle.vs_model.specs.Vectors.Place.{Fresh};
 ghost use Rattle.vs_model.specs.Vectors.{Copies, IsCanonicalPlace, IsCanonicalVector, Place, Vector, place_of, stands, switched};
 
 /// Frames that follow one another by lawful steps are a legal list, and there is no other.
 pub fn law_steps()
-    ensures steps { (cluster : Cluster) (rules : Filter) (v0 : Vector) (fs : List Frame) → LogsAreDistinct cluster →
-        AllCopiedFollows fs → Steps cluster rules v0 fs → Legal cluster rules v0 fs }
+    ensures steps { StepsAreLegal }
     ensures only { (cluster : Cluster) (rules : Filter) (v0 : Vector) (fs : List Frame) →
         Legal cluster rules v0 fs → Steps cluster rules v0 fs }
 {}
@@ -61,8 +61,7 @@ pub fn law_final()
 
 /// Each kind of frame, sent by the rules that a program keeps, is a lawful step.
 pub fn law_frames()
-    ensures tx { (cluster : Cluster) (rules : Filter) (v w : Vector) (s : ShardName) (told : Entry) → LogsAreDistinct cluster →
-        SendsTx cluster rules v s told w → Step cluster rules v (Tx s told w) }
+    ensures tx { TransactionsAreSteps }
     ensures copy { (cluster : Cluster) (rules : Filter) (v : Vector) (s : ShardName) (f : Frame) →
         SendsCopy cluster rules v s f → Step cluster rules v f }
     ensures switch { (cluster : Cluster) (rules : Filter) (v : Vector) (j : JournalValue) → HasGathered cluster v j →
@@ -76,10 +75,8 @@ pub fn law_frames()
 
 /// What is due to a shard, and the journal ahead of it, after the first entries that were due were sent.
 pub fn law_due()
-    ensures due { (s : ShardName) (log : Log) (p q : Position) (sent rest : List Entry) → HaveDistinctGtids log.entries →
-        due s log p ≡ sent ++ rest → IsPositionAfter p sent q → due s log q ≡ rest }
-    ensures stop { (s : ShardName) (log : Log) (p q : Position) (sent rest : List Entry) → HaveDistinctGtids log.entries →
-        due s log p ≡ sent ++ rest → IsPositionAfter p sent q → stop s log q ≡ stop s log p }
+    ensures due { DueGoesOn }
+    ensures stop { StopStays }
 {}
 
 /// Where a lane's first pieces were handled, the next one is the transaction of the first entry that

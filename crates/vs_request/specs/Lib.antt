@@ -3,3 +3,4 @@ pub mod Starts
 pub mod Entries
 pub mod Requests
 pub mod Refusals
+pub mod Laws

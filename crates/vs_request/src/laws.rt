@@ -5,11 +5,12 @@ ghost use Rattle.vs_proto.specs.declared.row.Row.{Row};
 ghost use Rattle.vs_request.specs.declared.refusal.RequestRefusal.{RequestRefusal};
 ghost use Rattle.vs_request.specs.declared.request.Request.{Request};
 ghost use Rattle.vs_request.specs.Keys.{cells_of, IsRowOf};
+ghost use Rattle.vs_request.specs.Laws.{SaysOneThing};
 ghost use Rattle.vs_request.specs.Requests.{Says};
 
 /// Each list of bytes says one thing: a request, or its first fault.
 pub fn law_requests()
-    ensures one { (bytes : List ℕ) (r s : Result Request RequestRefusal) → Says bytes r → Says bytes s → r ≡ s }
+    ensures one { SaysOneThing }
     ensures some { (bytes : List ℕ) → (r : Result Request RequestRefusal) × Says bytes r }
 {}
 
