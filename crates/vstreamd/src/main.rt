@@ -25,33 +25,35 @@ fn is_plain(words: &[String]) -> bool {
     }
 }
 
-/// Does what the words say, with the real streams, folders and time.
-fn answer(rt: HostRuntime, words: &[String]) -> Status {
+/// Why there are no words. One that isn't UTF-8 is none that the program takes.
+fn end_of(error: &io::Error) -> Status {
+    if error.kind() == ErrorKind::OutOfMemory {
+        Status::Memory
+    } else {
+        Status::Usage
+    }
+}
+
+fn main(rt: HostRuntime) -> ExitCode {
     let alloc = rt.alloc();
     let mut input = StdSource::new(&rt);
     let mut output = StdSink::new(rt);
     let mut tablets = FolderTablets::new(rt, alloc);
-    if is_plain(words) {
-        return run_plain(alloc, words, &mut input, &mut output, &mut tablets);
-    }
     let mut clock = HostClock::new(rt);
-    run(
-        &rt,
-        alloc,
-        words,
-        &mut input,
-        &mut output,
-        &mut tablets,
-        &mut clock,
-    )
-}
-
-fn main(rt: HostRuntime) -> ExitCode {
     let status = match words_of(rt) {
-        Ok(words) => answer(rt, &words),
-        Err(error) if error.kind() == ErrorKind::OutOfMemory => Status::Memory,
-        // a word that isn't UTF-8
-        Err(_) => Status::Usage,
+        Err(error) => end_of(&error),
+        Ok(words) if is_plain(&words) => {
+            run_plain(alloc, &words, &mut input, &mut output, &mut tablets)
+        }
+        Ok(words) => run(
+            &rt,
+            alloc,
+            &words,
+            &mut input,
+            &mut output,
+            &mut tablets,
+            &mut clock,
+        ),
     };
     let number = status.number();
     if number != 0 {
