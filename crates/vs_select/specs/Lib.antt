@@ -1,0 +1,7 @@
+pub mod Numbers
+pub mod Keys
+pub mod Parts
+pub mod Grammar
+pub mod Binding
+pub mod Rows
+pub mod Refusals
