@@ -1,5 +1,5 @@
 -- Quoted texts byte by byte.
-use Rattle.std.proofs.Common.{◌≡◌, ◌++◌, ℕ, List, [], ◌∷◌, Option, Some, None, refl, ap, append_assoc}
+use Rattle.std.proofs.Common.{◌≡◌, ◌++◌, ℕ, List, [], ◌∷◌, Option, Some, None, refl, append_assoc}
 use Rattle.std.specs.Prelude.{option_map}
 use Rattle.vs_select.specs.Parts.{with_byte}
 

@@ -1,12 +1,12 @@
 -- Each part leaves less of its text, so a text has no more parts than bytes.
-use Rattle.std.proofs.Common.{◌≡◌, ◌≤◌, ◌<◌, ◌+◌, ◌-◌, ℕ, zero, suc, Bool, true, false, List, [], ◌∷◌, length, drop, refl, arith, sym, ap, ◌∙◌, length-drop, nat_eq}
-use Rattle.std.specs.Prelude.{Option, Some, None, cond, Result, Ok, Err, ◌==◌, ◌&&◌, ◌||◌, option_map}
+use Rattle.std.proofs.Common.{◌≡◌, ◌≤◌, ◌<◌, ◌+◌, ◌-◌, ℕ, zero, suc, Bool, true, false, List, [], ◌∷◌, length, drop, refl, arith, sym, ap, ◌∙◌, length-drop}
+use Rattle.std.specs.Prelude.{Option, Some, None, cond, Result, Ok, Err, ◌==◌, ◌||◌}
 use Rattle.std.specs.List.{prefix_len}
 use Rattle.vs_select.specs.Numbers.{is_digit}
-use Rattle.vs_select.specs.Parts.{Next, behind, closed, is_blank, is_letter, is_word_byte, left_at, long_sign, next_in, next_part, number_of_run, part_at, parts_from, placed, run_at, short_sign, sign_at, sign_by, up_to_backquote, up_to_quote, with_byte, with_part}
+use Rattle.vs_select.specs.Parts.{Next, behind, closed, is_blank, is_letter, is_word_byte, left_at, long_sign, next_in, next_part, part_at, parts_from, placed, sign_at, sign_by, up_to_backquote, up_to_quote, with_byte, with_part}
 use Rattle.vs_select.specs.Grammar.{after, finished, run, step}
 use Rattle.vs_select.specs.declared.part.Part.{Part}
-use Rattle.vs_select.specs.declared.part.Part.TheVariants.{Word, Quoted, Bytes, Unclosed}
+use Rattle.vs_select.specs.declared.part.Part.TheVariants.{Quoted, Bytes, Unclosed}
 use Rattle.vs_select.specs.declared.select.Select.{Select}
 use Rattle.vs_select.specs.declared.select.Comparison.{Comparison}
 use Rattle.vs_select.specs.declared.state.State.{State}

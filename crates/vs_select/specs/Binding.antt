@@ -1,5 +1,5 @@
 -- A select bound to a table: its columns by their places, its literals by the columns' kinds.
-use Rattle.std.specs.Prelude.{ℕ, Bool, true, false, not, nat_eq, List, [], ◌∷◌, ◌++◌, map, length, Option, Some, None, Result, Ok, Err, is_some}
+use Rattle.std.specs.Prelude.{ℕ, Bool, true, false, not, nat_eq, List, [], ◌++◌, map, length, Option, Some, None, Result, Ok, Err, is_some}
 use Rattle.std.specs.List.{find, filter_map, position_from, range_with_len}
 use Rattle.std.specs.Option.{option_and_then, option_map, option_map_or}
 use Rattle.std.specs.Cmp.Lexicographic.{pointwise}
@@ -7,14 +7,11 @@ use Rattle.vs_base.specs.declared.table.Column.{Column}
 use Rattle.vs_base.specs.declared.table.ColumnKind.{ColumnKind}
 use Rattle.vs_select.specs.Numbers.{signed, whole_range}
 use Rattle.vs_select.specs.declared.select.Literal.{Literal}
-use Rattle.vs_select.specs.declared.select.Literal.TheVariants as Literal
 use Rattle.vs_select.specs.declared.select.Condition.{Condition}
-use Rattle.vs_select.specs.declared.select.Condition.TheVariants as Condition
 use Rattle.vs_select.specs.declared.select.Comparison.{Comparison}
 use Rattle.vs_select.specs.declared.select.Test.{Test}
 use Rattle.vs_select.specs.declared.select.Select.{Select}
 use Rattle.vs_select.specs.declared.bound.Check.{Check}
-use Rattle.vs_select.specs.declared.bound.Check.TheVariants as Check
 use Rattle.vs_select.specs.declared.bound.BoundTest.{BoundTest}
 use Rattle.vs_select.specs.declared.bound.BoundSelect.{BoundSelect}
 

@@ -1,5 +1,5 @@
 -- A select text: its parts one after another, and the first that doesn't fit.
-use Rattle.std.specs.Prelude.{◌≡◌, ℕ, Bool, true, false, not, nat_eq, List, [], ◌∷◌, ◌++◌, length, Option, Some, None, Result, Ok, Err, if◌then◌else◌, codes}
+use Rattle.std.specs.Prelude.{ℕ, Bool, true, false, not, nat_eq, List, [], ◌∷◌, ◌++◌, length, Option, Some, None, Result, Ok, Err, if◌then◌else◌, codes}
 use Rattle.std.specs.List.{list_any}
 use Rattle.std.specs.Option.{option_and_then, option_map}
 use Rattle.std.specs.Cmp.Lexicographic.{pointwise}
@@ -8,12 +8,9 @@ use Rattle.vs_select.specs.declared.part.Part.{Part}
 use Rattle.vs_select.specs.declared.part.Part.TheVariants as part
 use Rattle.vs_select.specs.declared.state.State.{State}
 use Rattle.vs_select.specs.declared.state.State.TheVariants.{Begin, Selected, Starred, Listed, Comma, From, Named, Wanting, Column, Compared, Is, IsNot, Tested}
-use Rattle.vs_select.specs.declared.select.Comparison.{Comparison}
 use Rattle.vs_select.specs.declared.select.Literal.{Literal}
-use Rattle.vs_select.specs.declared.select.Literal.TheVariants as Literal
 use Rattle.vs_select.specs.declared.select.Condition.{Condition}
 use Rattle.vs_select.specs.declared.select.Condition.TheVariants.{Compares, IsNull, IsNotNull}
-use Rattle.vs_select.specs.declared.select.Test.{Test}
 use Rattle.vs_select.specs.declared.select.Select.{Select}
 
 -- a name; no word is reserved

@@ -3,7 +3,6 @@ use Rattle.std.specs.Prelude.{ℕ, List, map}
 use Rattle.std.specs.List.{slice_get}
 use Rattle.std.specs.Option.{unwrap_or}
 use Rattle.vs_base.specs.declared.cell.Cell.{Cell}
-use Rattle.vs_base.specs.declared.cell.Cell.TheVariants as Cell
 
 -- a cell that the row lacks counts as NULL
 abbrev pub cell_at : List Cell → ℕ → Cell

@@ -5,3 +5,4 @@ pub mod Grammar
 pub mod Binding
 pub mod Rows
 pub mod Refusals
+pub mod Productions

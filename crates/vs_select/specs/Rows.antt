@@ -1,18 +1,15 @@
 -- What a bound select keeps of a row.
-use Rattle.std.specs.Prelude.{ℕ, Bool, true, false, not, List, [], ◌∷◌, map, Option, Some, None, if◌then◌else◌}
-use Rattle.std.specs.List.{list_all, slice_get}
-use Rattle.std.specs.Option.{option_map_or, unwrap_or}
+use Rattle.std.specs.Prelude.{Bool, true, false, List, Option, Some, None, if◌then◌else◌}
+use Rattle.std.specs.List.{list_all}
+use Rattle.std.specs.Option.{option_map_or}
 use Rattle.std.specs.Ordering.{nat_cmp, int_cmp, is_eq, is_ne, is_lt, is_le, is_gt, is_ge}
 use Rattle.std.specs.Cmp.Lexicographic.{slice_cmp}
 use Rattle.std.specs.declared.cmp.Ordering.{Ordering}
 use Rattle.vs_base.specs.declared.cell.Cell.{Cell}
-use Rattle.vs_base.specs.declared.cell.Cell.TheVariants as Cell
 use Rattle.vs_select.specs.Numbers.{number_of}
 use Rattle.vs_select.specs.Keys.{cell_at, project}
 use Rattle.vs_select.specs.declared.select.Comparison.{Comparison}
-use Rattle.vs_select.specs.declared.select.Comparison.TheVariants as Comparison
 use Rattle.vs_select.specs.declared.bound.Check.{Check}
-use Rattle.vs_select.specs.declared.bound.Check.TheVariants as Check
 use Rattle.vs_select.specs.declared.bound.BoundSelect.{BoundSelect}
 
 abbrev pub compares : Comparison → Ordering → Bool

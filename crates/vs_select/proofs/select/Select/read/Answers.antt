@@ -1,5 +1,5 @@
-use Rattle.std.proofs.Common.{◌≡◌, ◌<◌, ◌≤◌, ◌∙◌, Ok, Err, Some, None, length, ap, sym, arith}
-use Rattle.vs_select.specs.Grammar.{ended, finished, select_of, step}
+use Rattle.std.proofs.Common.{◌≡◌, ◌<◌, ◌≤◌, ◌∙◌, Some, None, length, ap, sym, arith}
+use Rattle.vs_select.specs.Grammar.{ended, step}
 use Rattle.vs_select.specs.Parts.{next_part}
 use Rattle.vs_select.proofs.ReadLemmas.{leaves_less, meant-ended, meant-more, meant-stopped}
 use Rattle.vs_select.proofs.select.Select.read.Goals as goal
