@@ -7,3 +7,4 @@ pub mod SpellLaws
 pub mod PartLaws
 pub mod RunLaws
 pub mod SelectLaws
+pub mod NoneLaws

@@ -89,7 +89,7 @@ unclosed_stops (Is q n) = refl
 unclosed_stops (IsNot q n) = refl
 unclosed_stops (Tested q) = refl
 
-fits_stands : (st u : State) (p : Part) → step st p ≡ Some u → Stands p
+pub fits_stands : (st u : State) (p : Part) → step st p ≡ Some u → Stands p
 fits_stands st u part.Wrong h = absurd (let e = wrong_stops st in cc)
 fits_stands st u part.Unclosed h = absurd (let e = unclosed_stops st in cc)
 fits_stands st u p h = tt
@@ -189,7 +189,7 @@ runs_to_stop (suc m) size at text st few h = stopped_next m size at text st few 
 
 -- ---- and back
 
-no_part_run : (n size : ℕ) (text : List ℕ) (st : State) → next_part text ≡ None → run st (parts_from n size text) ≡ Ok st
+pub no_part_run : (n size : ℕ) (text : List ℕ) (st : State) → next_part text ≡ None → run st (parts_from n size text) ≡ Ok st
 no_part_run zero size text st e = refl
 no_part_run (suc m) size text st e = ap (λ o. run st (with_part size o (parts_from m size))) e
 

@@ -7,7 +7,7 @@ use Rattle.std.proofs.lemmas.Bool.{eqb-true, or_cases}
 use Rattle.vs_select.specs.Numbers.{is_digit, small_value}
 use Rattle.vs_select.specs.Grammar.{done, ended, finished, run, select_of, step}
 use Rattle.vs_select.specs.Parts.{Next, behind, closed, is_blank, is_word_byte, left_at, long_sign, next_in, next_part, number_by, number_of_run, part_at, parts, placed, short_sign, sign_at, sign_by, sign_part, up_to_backquote, up_to_quote}
-use Rattle.vs_select.specs.Productions.{AreSelect, BeginsWith, CanGoOn, IsMissedAt, IsNoneFrom, IsSelect, IsUnclosed, SelectsAreProductions, Spells}
+use Rattle.vs_select.specs.Productions.{AreSelect, BeginsWith, CanGoOn, IsMissedAt, IsNoneFrom, IsSelect, IsUnclosed, Spells}
 use Rattle.vs_select.specs.declared.part.Part.{Part}
 use Rattle.vs_select.specs.declared.part.Part.TheVariants as part
 use Rattle.vs_select.specs.declared.state.State.{State}
@@ -34,7 +34,7 @@ accept_walks : (ps : List Part) (st : State) (s : Select) → accept st ps ≡ S
 accept_walks [] st s h = (st, refl, h)
 accept_walks (p ∷ ps) st s h = walked_more ps s (step st p) (λ u. accept_walks ps u s) h
 
-behind_walk : (ps : List Part) (st t : State) → walk st ps ≡ Some t → accept st ps ≡ done t
+pub behind_walk : (ps : List Part) (st t : State) → walk st ps ≡ Some t → accept st ps ≡ done t
 behind_walk ps st t h = ap (accept st) (sym (append-nil ps)) ∙ accept-behind ps [] st t h
 
 done_is : (size : ℕ) (o : Option Select) (s : Select) → ended size o ≡ Ok s → o ≡ Some s
@@ -47,17 +47,17 @@ run_is_select text s (Ok t) e h =
     (ran.0, ran.1, to_come ran.0 Begin s (behind_walk ran.0 Begin t ran.2 ∙ done_is (length text) (done t) s h))
 run_is_select text s (Err at) e h = absurd (cc)
 
-law_some : (text : List ℕ) (s : Select) → select_of text ≡ Ok s → IsSelect text s
+pub law_some : (text : List ℕ) (s : Select) → select_of text ≡ Ok s → IsSelect text s
 law_some text s h = run_is_select text s (run Begin (parts text)) refl h
 
-law_all : (text : List ℕ) (s : Select) → IsSelect text s → select_of text ≡ Ok s
+pub law_all : (text : List ℕ) (s : Select) → IsSelect text s → select_of text ≡ Ok s
 law_all text s i =
     let walked = accept_walks i.0 Begin s (selects_accepted i.0 s i.2) in
     ap (finished (length text)) (parts_to_runs i.0 (length text) (length text) text Begin walked.0 (omega arith) i.1 walked.1) ∙ ap (ended (length text)) walked.2
 
 -- ---- none
 
-can_go : (ps : List Part) (u : State) → walk Begin ps ≡ Some u → CanGoOn ps
+pub can_go : (ps : List Part) (u : State) → walk Begin ps ≡ Some u → CanGoOn ps
 can_go ps u h =
     let e = can_end u in
     (e.0, e.1, to_come (ps ++ e.0) Begin e.1 (accept-behind ps e.0 Begin u h ∙ e.2))
@@ -112,7 +112,7 @@ or_second : (a b : Bool) → b ≡ true → (a || b) ≡ true
 or_second true b h = refl
 or_second false b h = h
 
-unclosed_opens : (c : ℕ) (cs : List ℕ) → (part_at c cs).0 ≡ part.Unclosed → (c == 0x27 || c == 0x60) ≡ true
+pub unclosed_opens : (c : ℕ) (cs : List ℕ) → (part_at c cs).0 ≡ part.Unclosed → (c == 0x27 || c == 0x60) ≡ true
 unclosed_opens c cs =
     let P : Part × List ℕ → Type 0 = λ cut. cut.0 ≡ part.Unclosed → (c == 0x27 || c == 0x60) ≡ true in
     of_choice P (c == 0x60) _ _ (λ e _. or_second (c == 0x27) (c == 0x60) e) (λ _.
@@ -139,15 +139,15 @@ opened c cs h =
     let Q : ℕ → Type 0 = λ x. IsOpen (part_at x cs).0 in
     ⊎_elim (λ e. subst Q (sym (eqb-true c 0x27 e)) (bytes_open (up_to_quote false cs))) (λ e. subst Q (sym (eqb-true c 0x60 e)) (quoted_open (up_to_backquote cs))) (or_cases (c == 0x27) (c == 0x60) h)
 
-left_is : (p : Part) (left : ℕ) → (p ≡ part.Unclosed → ⊥) → left_at p left ≡ left
+pub left_is : (p : Part) (left : ℕ) → (p ≡ part.Unclosed → ⊥) → left_at p left ≡ left
 left_is part.Unclosed left h = absurd (h refl)
 left_is p left h = refl
 
-same_part : (text rest : List ℕ) (p : Part) (left : ℕ) (n : Next) → next_part text ≡ Some (left, (p, rest)) → next_part text ≡ Some n → p ≡ n.1.0
+pub same_part : (text rest : List ℕ) (p : Part) (left : ℕ) (n : Next) → next_part text ≡ Some (left, (p, rest)) → next_part text ≡ Some n → p ≡ n.1.0
 same_part text rest p left n h k = let same : (left, (p, rest)) ≡ n = cc in ap (λ (m : Next). m.1.0) same
 
 -- a text that begins with a part at once
-begins_at_once : (c : ℕ) (cs : List ℕ) → Stands (part_at c cs).0 → BeginsWith (c ∷ cs) ((part_at c cs).0 ∷ []) (part_at c cs).1
+pub begins_at_once : (c : ℕ) (cs : List ℕ) → Stands (part_at c cs).0 → BeginsWith (c ∷ cs) ((part_at c cs).0 ∷ []) (part_at c cs).1
 begins_at_once c cs stands =
     let cut = part_cut c cs stands in
     ([], cut.0, (part_at c cs).1, cut.1, refl, cut.2, cut.3, ([], refl, refl))
@@ -155,13 +155,13 @@ begins_at_once c cs stands =
 abbrev LeftIs : List ℕ → ℕ → Type 0
 LeftIs rest left = (IsUnclosed rest → left ≡ 0) × ((IsUnclosed rest → ⊥) → left ≡ length rest)
 
-left_of_unclosed : (c : ℕ) (cs : List ℕ) → IsUnclosed (c ∷ cs) → left_at (part_at c cs).0 (length (c ∷ cs)) ≡ 0
+pub left_of_unclosed : (c : ℕ) (cs : List ℕ) → IsUnclosed (c ∷ cs) → left_at (part_at c cs).0 (length (c ∷ cs)) ≡ 0
 left_of_unclosed c cs u =
     let first : u.0 ≡ c = cc in
     let opens : (c == 0x27 || c == 0x60) ≡ true = ap (λ x. x == 0x27 || x == 0x60) (sym first) ∙ u.3 in
     ⊎_elim (λ e. ap (λ p. left_at p (length (c ∷ cs))) e) (λ stands. absurd (u.4 (part_at c cs).0 (part_at c cs).1 (begins_at_once c cs stands))) (opened c cs opens)
 
-not_spelled : (p : Part) (spelled : List ℕ) → p ≡ part.Unclosed → Spells p spelled → ⊥
+pub not_spelled : (p : Part) (spelled : List ℕ) → p ≡ part.Unclosed → Spells p spelled → ⊥
 not_spelled p spelled e h = let S : Part → Type 0 = λ q. Spells q spelled in subst S e h
 
 left_of_closed : (c : ℕ) (cs : List ℕ) (n : Next) → next_part (c ∷ cs) ≡ Some n → (part_at c cs).0 ≡ n.1.0 → (IsUnclosed (c ∷ cs) → ⊥) → left_at (part_at c cs).0 (length (c ∷ cs)) ≡ length (c ∷ cs)
@@ -226,8 +226,5 @@ run_is_none text at (Err stop) e h =
     let same : stop ≡ at = cc in
     stop_is_none text at (runs_to_stop (length text) (length text) at text Begin (omega arith) (e ∙ ap Err same))
 
-law_place : (text : List ℕ) (at : ℕ) → select_of text ≡ Err at → IsNoneFrom text at
+pub law_place : (text : List ℕ) (at : ℕ) → select_of text ≡ Err at → IsNoneFrom text at
 law_place text at h = run_is_none text at (run Begin (parts text)) refl h
-
-pub selects_are_productions : SelectsAreProductions
-selects_are_productions = record { some = law_some; all = law_all; place = law_place }

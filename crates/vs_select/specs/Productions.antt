@@ -160,3 +160,4 @@ pub record SelectsAreProductions : Type 0 where
   pub some : (text : List ℕ) (s : Select) → select_of text ≡ Ok s → IsSelect text s
   pub all : (text : List ℕ) (s : Select) → IsSelect text s → select_of text ≡ Ok s
   pub place : (text : List ℕ) (at : ℕ) → select_of text ≡ Err at → IsNoneFrom text at
+  pub only : (text : List ℕ) (at : ℕ) → IsNoneFrom text at → select_of text ≡ Err at
