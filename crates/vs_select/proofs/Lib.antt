@@ -1,0 +1,10 @@
+pub mod QuoteLemmas
+pub mod ReadLemmas
+pub mod BindLemmas
+pub mod GrammarLaws
+pub mod AcceptLaws
+pub mod SpellLaws
+pub mod PartLaws
+pub mod RunLaws
+pub mod SelectLaws
+pub mod NoneLaws

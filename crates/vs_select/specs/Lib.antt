@@ -1,0 +1,8 @@
+pub mod Numbers
+pub mod Keys
+pub mod Parts
+pub mod Grammar
+pub mod Binding
+pub mod Rows
+pub mod Refusals
+pub mod Productions
