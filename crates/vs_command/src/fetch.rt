@@ -39,8 +39,8 @@ use vs_base::{List, OutOfMemory, ShardName};
 use vs_entries::{LogRefusal, Reader, Took};
 use vs_gtid::GtidSet;
 use vs_log::{law_distinct, law_growth};
-use vs_rows::Maps;
 use vs_outside::{AskEnd, Failed, Feed, Got, Opened, Tablets};
+use vs_rows::Maps;
 use vs_schema::{Schema, SchemaRefusal};
 
 /// Why a feed was not read to its end.

@@ -208,7 +208,9 @@ fn gives_the_places_of_entries(rt: HostRuntime) -> Result<(), Fail> {
     let log = two_drops(alloc)?;
     let mut reader = fed(alloc, log.as_slice())?;
     for (begin, behind) in [(112, 205), (205, 298)] {
-        assert!(rt; matches!(reader.next_entry(), Ok(Took::Entry { at, end, .. }) if at == begin && end == behind));
+        assert!(rt;
+            matches!(reader.next_entry(), Ok(Took::Entry { at, end, .. }) if at == begin && end == behind)
+        );
     }
     assert!(rt; matches!(reader.next_entry(), Ok(Took::More)));
     assert!(rt; matches!(reader.next_entry(), Ok(Took::More)));

@@ -69,7 +69,7 @@ same_ends rules s a b t u (x ∷ xs) (y ∷ ys) e f rest more n i j h wa na wt n
     let b_a : cb.0 ≡ ca.0 = (let q : ◌≡◌ {A = Result (State _) Why} (Ok cb.0) (Ok ca.0) = sym cb.1 ∙ ca.1 in cc) in
     let u_a : cu.0 ≡ ca.0 = (let q : ◌≡◌ {A = Result (State _) Why} (Ok cu.0) (Ok ca.0) = sym cu.1 ∙ ca.1 in cc) in
     let rests : xs ++ e ∷ [] ≡ ys ++ f ∷ [] = same_ends rules ca.0 a b t u xs ys e f rest more n i.1 j.1 p.1 ca.2 na (subst (λ z. walk rules z (xs ++ e ∷ []) ≡ Ok t) t_a ct.2) nt
-        (subst (λ z. walk rules z ys ≡ Ok b) b_a cb.2) nb (subst (λ z. walk rules z (ys ++ f ∷ []) ≡ Ok u) u_a cu.2) nu in
+    (subst (λ z. walk rules z ys ≡ Ok b) b_a cb.2) nb (subst (λ z. walk rules z (ys ++ f ∷ []) ≡ Ok u) u_a cu.2) nu in
     ap (λ z. x ∷ z) rests ∙ ap (λ z. z ∷ (ys ++ f ∷ [])) p.0
 
 one_end : {M : Type 0} (rules : Rules M) (bytes : List ℕ) (n at other : ℕ) → EntryEndsAt rules bytes n at → EntryEndsAt rules bytes n other → at ≡ other

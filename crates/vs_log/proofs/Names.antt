@@ -3,7 +3,6 @@ use Rattle.std.proofs.Common.{◌≡◌, ◌⊎◌, [], ◌∷◌, ◌++◌, Opt
 use Rattle.vs_base.specs.declared.Gtid.{Gtid}
 use Rattle.vs_gtid.specs.declared.Entry.{Entry}
 use Rattle.vs_log.specs.States.{Place}
-use Rattle.vs_log.specs.States.Place.{Front, Between, Named, Inside}
 use Rattle.vs_log.specs.States.{State}
 use Rattle.vs_binlog.specs.Heads.{Event}
 use Rattle.vs_log.specs.Table.{Rules, step}

@@ -6,13 +6,12 @@ use Rattle.vs_base.specs.declared.Gtid.{Gtid}
 use Rattle.vs_base.specs.declared.Why.{Why}
 use Rattle.vs_base.specs.declared.Why.TheVariants.{BadMagic}
 use Rattle.vs_gtid.specs.declared.Entry.{Entry}
-use Rattle.vs_gtid.specs.Logs.{Log}
 use Rattle.vs_log.specs.States.{State}
 use Rattle.vs_binlog.specs.Heads.{Event, length_of}
 use Rattle.vs_log.specs.Events.{is_held, joined, last_place, magic}
 use Rattle.vs_log.specs.Table.{Rules, step}
 use Rattle.vs_log.specs.Meaning.{front, has_magic, head_refusal, is_base_known, knows_base, log_meant, log_of, log_unread}
-use Rattle.vs_log.specs.Productions.{Begins, EntryEndsAt, IsCut, Refuses, StandsAt}
+use Rattle.vs_log.specs.Productions.{Begins, EntryEndsAt, IsCut, Refuses}
 use Rattle.vs_log.specs.Steps.{Reaches, next_state, open_gtid, result_with_past, with_past}
 use Rattle.vs_log.specs.Laws.{OpensOrEnds, ReadsInSteps, TellsEntries}
 use Rattle.vs_log.proofs.Bases.{knows_its_base, step_keeps}
@@ -147,15 +146,15 @@ ends : {M : Type 0} (rules : Rules M) (bytes : List ℕ) (at : ℕ) (s : State M
 ends rules bytes at s why r h =
     let refused = subst (λ z. Refuses rules s z (drop at bytes) why) r.place (refuses rules at s (drop at bytes) why h) in (
       sym (only rules bytes _ (◌⊎◌.inl (record {
-      events = r.events;
-      rest = drop at bytes;
-      cut = r.cut;
-      state = s;
-      begins = r.begins;
-      why = why;
-      refused = refused;
-      is = ap (λ z. log_of s z why) r.place;
-    }))),
+        events = r.events;
+        rest = drop at bytes;
+        cut = r.cut;
+        state = s;
+        begins = r.begins;
+        why = why;
+        refused = refused;
+        is = ap (λ z. log_of s z why) r.place;
+      }))),
       (knows_its_base rules bytes).parts r.events s (drop at bytes) why r.cut r.begins refused,
     )
 
