@@ -155,13 +155,13 @@ pub record IsLog {M : Type 0} (rules : Rules M) (events : List Event) (base : Po
   pub is_base : IsBase rules previous base
   pub are_entries : AreEntries rules base groups entries known
 
--- no event, or less than an entry: nothing, gtid, or gtid query(BEGIN) (map | rows | savepoint)*
+-- the GTID event of an entry, alone
 pub record IsNamed {M : Type 0} (rules : Rules M) (events : List Event) (g : Gtid) : Type 0 where
   pub gtid : Event
   pub are : events ≡ gtid ∷ []
   pub names : IsGtid gtid g
 
--- the rest of the events is such a beginning, as the state says
+-- the rest of the events is no event, or less than an entry, as the state says: nothing, gtid, or gtid query(BEGIN) (map | rows | savepoint)*
 abbrev pub IsBegun : {M : Type 0} → Rules M → Position → List Event → State M → Place M → Type 0
 IsBegun rules known opened s Front = ⊥
 IsBegun rules known opened s (Between first) = (opened ≡ []) × (s.known ≡ known)
