@@ -1,1 +1,2 @@
+pub mod BoolLemmas
 pub mod NameLemmas

@@ -1,5 +1,6 @@
 -- The entries of a log make no position that is too large: from a start at its end none of those behind it does.
 use Rattle.std.proofs.Common.{◌≡◌, ℕ, zero, suc, ◌≤◌, length, take, drop, true, false, ◌||◌, not, if◌then◌else◌, List, [], ◌∷◌, ◌++◌, Bool, Result, Ok, Err, refl, sym, ap, subst, ◌∙◌, arith}
+use Rattle.std.proofs.lemmas.Bool.{or_from}
 use Rattle.std.specs.Prelude.{IfOk}
 use Rattle.std.specs.List.{AllByRecursion, list_any}
 use Rattle.vs_base.specs.declared.Gtid.{Gtid}
@@ -45,16 +46,12 @@ lacks_all : (p : Position) (es : List Entry) → Lacks p es → lacking p es ≡
 lacks_all p [] h = refl
 lacks_all p (e ∷ es) h = ap (λ b. if not b then e ∷ lacking p es else lacking p es) h.0 ∙ ap (λ l. e ∷ l) (lacks_all p es h.1)
 
-or_false : (a b : Bool) → a ≡ false → b ≡ false → (a || b) ≡ false
-or_false true b h k = absurd (cc)
-or_false false b h k = k
-
 -- with the GTID of an entry before them, others are still lacking
 lacks_with : (p : Position) (g : Gtid) (es : List Entry) → Lacks p es → list_any (λ (f : Entry). same_gtid g f.gtid) es ≡ false → Lacks (added p g) es
 lacks_with p g [] h other = tt
 lacks_with p g (e ∷ es) h other =
     let parts = or_both (same_gtid g e.gtid) (list_any (λ (f : Entry). same_gtid g f.gtid) es) other in
-    (has-added p g e.gtid ∙ or_false (has p e.gtid) (same_gtid g e.gtid) h.0 parts.0, lacks_with p g es h.1 parts.1)
+    (has-added p g e.gtid ∙ or_from (has p e.gtid) (same_gtid g e.gtid) h.0 parts.0, lacks_with p g es h.1 parts.1)
   where
     or_both : (a b : Bool) → (a || b) ≡ false → (a ≡ false) × (b ≡ false)
     or_both true b h = absurd (cc)

@@ -2,7 +2,7 @@
 use Rattle.std.proofs.Common.{◌≡◌, ℕ, Bool, true, false, ◌||◌, not, List, [], ◌∷◌, ◌++◌, Some, None, IsTrue, if◌then◌else◌, is_some, refl, sym, ap, subst, ◌∙◌}
 use Rattle.std.specs.Prelude.{IfSome, ◌⊎◌}
 use Rattle.std.specs.Option.{option_or}
-use Rattle.std.proofs.Math.Bool.{or-false}
+use Rattle.std.proofs.Math.Bool.{or-false, or_assoc}
 use Rattle.vs_base.specs.declared.ShardName.{ShardName}
 use Rattle.vs_base.specs.declared.Gtid.{Gtid}
 use Rattle.vs_base.specs.Names.{same_gtid}
@@ -34,14 +34,10 @@ use Rattle.vs_command.specs.Streaming.{takes_all}
 after_one : (p : Position) (e : Entry) → IsPositionAfter p (e ∷ []) (added p e.gtid)
 after_one p e g = has-added p e.gtid g ∙ ap (λ b. has p g || b) (sym (or-false (same_gtid e.gtid g)))
 
-or_turned : (a b c : Bool) → ((a || b) || c) ≡ (a || (b || c))
-or_turned true b c = refl
-or_turned false b c = refl
-
 pub after_all : (p : Position) (es : List Entry) → IsPositionAfter p es (position_after p es)
 after_all p [] g = sym (or-false (has p g))
 after_all p (e ∷ es) g =
-    after_all (added p e.gtid) es g ∙ ap (λ b. b || is_gtid_of es g) (has-added p e.gtid g) ∙ or_turned (has p g) (same_gtid e.gtid g) (is_gtid_of es g)
+    after_all (added p e.gtid) es g ∙ ap (λ b. b || is_gtid_of es g) (has-added p e.gtid g) ∙ or_assoc (has p g) (same_gtid e.gtid g) (is_gtid_of es g)
 
 -- everything is taken of what is built
 taken : (s : ShardName) (g : Gtid) (t : ℕ) (w : Work) → IsBuilt w →

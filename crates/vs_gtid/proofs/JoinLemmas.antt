@@ -1,26 +1,19 @@
 -- What `joined` and `merged` give: the same GTIDs, in canonical order.
-use Rattle.std.proofs.Common.{◌≡◌, ℕ, ◌<◌, ◌≤◌, ◌&&◌, ◌||◌, Bool, true, false, List, [], ◌∷◌, ◌++◌, length, nat_eq, refl, ap, ◌∙◌, inl, inr, leb, arith}
+use Rattle.std.proofs.Common.{◌≡◌, ℕ, ◌<◌, ◌≤◌, ◌&&◌, ◌||◌, List, [], ◌∷◌, ◌++◌, length, nat_eq, refl, ap, ◌∙◌, inl, inr, leb, arith}
+use Rattle.std.proofs.Math.Bool.{or_assoc, or_comm}
 use Rattle.std.proofs.lemmas.Bool.{cases_Bool}
 use Rattle.std.proofs.lemmas.Bool.Decides.{nat_tests}
 use Rattle.std.specs.Cmp.Lexicographic.{pointwise}
 use Rattle.std.proofs.lemmas.List.Elements.{All-head, All-tail, All-nil, All-cons}
 use Rattle.std.proofs.lemmas.List.Folds.{list_any-append}
 use Rattle.std.specs.List.{All, slice_index}
+use Rattle.vs_base.proofs.BoolLemmas.{or_left_comm}
 use Rattle.vs_base.specs.declared.gtid.Gtid.{Gtid}
 use Rattle.vs_gtid.specs.declared.interval.Interval.{Interval}
 use Rattle.vs_gtid.specs.Positions.{Position, has, is_within, StandsBefore, StandsBeforeFirst, IsCanonical, IsInterval}
 use Rattle.vs_gtid.specs.Joins.{stands_before, hull, joined, merged, united, alone, added}
 use Rattle.vs_gtid.proofs.Order.{Before-trans, stands_before-is, meet, is_within-hull, IsInterval-hull, StandsBefore-hull}
 use Rattle.vs_base.specs.Names.{same_gtid}
-
-or_swap : (a b c : Bool) → (a || (b || c)) ≡ (b || (a || c))
-or_swap true true c = refl
-or_swap true false c = refl
-or_swap false b c = refl
-
-or_assoc : (a b c : Bool) → ((a || b) || c) ≡ (a || (b || c))
-or_assoc true b c = refl
-or_assoc false b c = refl
 
 -- joining an interval adds its GTIDs, and no others
 pub has-joined : (p : Position) (k : Interval) → k.first ≤ k.last → (g : Gtid) → has (joined k p) g ≡ (is_within g k || has p g)
@@ -30,18 +23,12 @@ has-joined (i ∷ rest) k h g =
     elim (cases_Bool (stands_before k i)) [
       | inl before ↦ rw before refl
       | inr not_before ↦ elim (cases_Bool (stands_before i k)) [
-        | inl after ↦ rw (not_before, after) (ap (λ b. is_within g i || b) (has-joined rest k h g) ∙ or_swap (is_within g i) (is_within g k) (has rest g))
+        | inl after ↦ rw (not_before, after) (ap (λ b. is_within g i || b) (has-joined rest k h g) ∙ or_left_comm (is_within g i) (is_within g k) (has rest g))
         | inr not_after ↦ rw (not_before, not_after)
             (has-joined rest (hull k i) (omega arith) g ∙ ap (λ b. b || has rest g) (is_within-hull k i h not_before not_after g)
             ∙ or_assoc (is_within g k) (is_within g i) (has rest g))
       ]
     ]
-
-pub or_turn : (a b : Bool) → (a || b) ≡ (b || a)
-or_turn true true = refl
-or_turn true false = refl
-or_turn false true = refl
-or_turn false false = refl
 
 one_number : (a b : ℕ) → (leb a b && leb b a) ≡ nat_eq a b
 one_number a b = grind (arith, nat_tests)
@@ -50,7 +37,7 @@ one_number a b = grind (arith, nat_tests)
 pub has-added : (p : Position) (g x : Gtid) → has (added p g) x ≡ (has p x || same_gtid g x)
 unfolding added same_gtid
 has-added p g x =
-    has-joined p (alone g) (omega arith) x ∙ ap (λ b. (pointwise nat_eq g.uuid x.uuid && b) || has p x) (one_number g.number x.number) ∙ or_turn (same_gtid g x) (has p x)
+    has-joined p (alone g) (omega arith) x ∙ ap (λ b. (pointwise nat_eq g.uuid x.uuid && b) || has p x) (one_number g.number x.number) ∙ or_comm (same_gtid g x) (has p x)
 
 further : (j i : Interval) (rest : Position) → i.first ≤ i.last → StandsBefore j i → StandsBeforeFirst i rest → StandsBeforeFirst j rest
 further j i [] h a b = tt

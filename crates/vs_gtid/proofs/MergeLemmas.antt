@@ -1,5 +1,6 @@
 -- How the next of sorted intervals comes to the end of a canonical list.
 use Rattle.std.proofs.Common.{◌≡◌, ℕ, zero, suc, ◌+◌, ◌-◌, ◌<◌, ◌≤◌, ◌||◌, Bool, true, false, List, [], ◌∷◌, ◌++◌, length, take, drop, set, insert, get_or, refl, ap, sym, subst, ◌∙◌, inl, inr, Ok, Err, arith}
+use Rattle.std.proofs.Math.Bool.{or_comm}
 use Rattle.std.proofs.lemmas.Bool.{cases_lt, false_from_ne_true, le-ltb, lt-ltb}
 use Rattle.std.proofs.lemmas.List.Edits.{insert_end}
 use Rattle.std.specs.Ordering.{nat_cmp, is_lt, ordering_then, ordering_reverse}
@@ -19,7 +20,7 @@ use Rattle.std.specs.List.{All}
 use Rattle.vs_gtid.proofs.EqualSets.{canonical_unique}
 use Rattle.vs_base.specs.declared.gtid.Gtid.{Gtid}
 use Rattle.vs_gtid.specs.Positions.{has, is_within, SameSet}
-use Rattle.vs_gtid.proofs.JoinLemmas.{has-joined, has-merged, IsCanonical-merged, or_turn}
+use Rattle.vs_gtid.proofs.JoinLemmas.{has-joined, has-merged, IsCanonical-merged}
 use Rattle.vs_gtid.proofs.MissingLemmas.{has_more}
 use Rattle.vs_gtid.proofs.AddLemmas.{stands_before-from, place_is, inserted, joined_at, merge_one}
 
@@ -82,7 +83,7 @@ LastBeginsBy-next p i j h b = λ d l. BeginsBy-trans (get_or p (length p - 1) d)
 pub has_joined_more : (is : List Interval) (i : ℕ) (d : Interval) (p : Position) → i < length is → (get_or is i d).first ≤ (get_or is i d).last →
     ((g : Gtid) → has p g ≡ has (take i is) g) → (g : Gtid) → has (joined (get_or is i d) p) g ≡ has (take (i + 1) is) g
 has_joined_more is i d p l h same g =
-    has-joined p (get_or is i d) h g ∙ (ap (λ (b : Bool). is_within g (get_or is i d) || b) (same g) ∙ (or_turn (is_within g (get_or is i d)) (has (take i is) g) ∙ sym (has_more is i d g l)))
+    has-joined p (get_or is i d) h g ∙ (ap (λ (b : Bool). is_within g (get_or is i d) || b) (same g) ∙ (or_comm (is_within g (get_or is i d)) (has (take i is) g) ∙ sym (has_more is i d g l)))
 
 has_permuted : (is sorted : List Interval) → IsPermutation is sorted → (g : Gtid) → has is g ≡ has sorted g
 unfolding has

@@ -1,5 +1,6 @@
 -- What a set lacks of another: interval by interval, and the first of it.
 use Rattle.std.proofs.Common.{◌≡◌, ℕ, zero, suc, ◌+◌, ◌<◌, ◌≤◌, ◌||◌, Bool, true, false, List, [], ◌∷◌, length, take, drop, get_or, refl, ap, sym, subst, ◌∙◌, inl, inr, arith}
+use Rattle.std.proofs.Math.Bool.{or_assoc}
 use Rattle.std.proofs.lemmas.Bool.{cases_lt, or_cases, or_from, false_from_ne_true}
 use Rattle.std.proofs.lemmas.Bool.Decides.{nat_tests}
 use Rattle.std.proofs.lemmas.Cmp.{nat_list_cmp_total, tied_itself}
@@ -58,17 +59,13 @@ pub IsSubset_more : (p q : Position) (i : ℕ) (d : Interval) → i < length p �
 IsSubset_more p q i d l s h g t =
     elim (or_cases _ _ (sym (has_more p i d g l) ∙ t)) [ inl a ↦ s g a | inr b ↦ h g b ]
 
-or_turned : (a b c : Bool) → (a || (b || c)) ≡ ((a || b) || c)
-or_turned true b c = refl
-or_turned false b c = refl
-
 -- the GTIDs of a list are those of a front, of the interval behind it and of the rest
 has_parts : (p : Position) (i : ℕ) (d : Interval) (g : Gtid) → i < length p →
     has p g ≡ (has (take i p) g || (is_within g (get_or p i d) || has (drop (suc i) p) g))
 unfolding has
 has_parts [] i d g l = absurd (omega arith)
 has_parts (h ∷ rest) zero d g l = refl
-has_parts (h ∷ rest) (suc m) d g l = ap (λ (b : Bool). is_within g h || b) (has_parts rest m d g (omega arith)) ∙ or_turned (is_within g h) (has (take m rest) g) _
+has_parts (h ∷ rest) (suc m) d g l = ap (λ (b : Bool). is_within g h || b) (has_parts rest m d g (omega arith)) ∙ sym (or_assoc (is_within g h) (has (take m rest) g) _)
 
 not_after_number : (g x : Gtid) → g.uuid ≡ x.uuid → g.number ≤ x.number → comes_after g x ≡ false
 not_after_number g x e h =

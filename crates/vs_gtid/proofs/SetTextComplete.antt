@@ -1,6 +1,6 @@
 -- A text of a set is scanned to its spans, and to its end.
-use Rattle.std.proofs.Common.{◌≡◌, ℕ, ◌+◌, ◌-◌, ◌*◌, ◌<◌, ◌≤◌, Bool, true, false, ◌||◌, ◌==◌, nat_le, List, [], ◌∷◌, ◌++◌, length, length-append, Some, refl, ap, sym, subst, ◌∙◌, inl, inr, arith}
-use Rattle.std.proofs.lemmas.Bool.{and_parts, cases_Bool, lt-ltb}
+use Rattle.std.proofs.Common.{◌≡◌, ℕ, ◌+◌, ◌-◌, ◌*◌, ◌<◌, ◌≤◌, true, false, ◌==◌, nat_le, List, [], ◌∷◌, ◌++◌, length, length-append, Some, refl, ap, sym, subst, ◌∙◌, inl, inr, arith}
+use Rattle.std.proofs.lemmas.Bool.{and_parts, cases_Bool, lt-ltb, or_parts}
 use Rattle.std.proofs.lemmas.Bool.Decides.{nat_tests}
 use Rattle.std.proofs.lemmas.List.{append_assoc, append-nil}
 use Rattle.std.proofs.lemmas.Int.Digits.{digits_value_push}
@@ -13,10 +13,6 @@ use Rattle.vs_gtid.specs.declared.part.Part.TheVariants.{Prefix, Opening, Gap, U
 use Rattle.vs_gtid.specs.SetTexts.{is_blank, IsNumber, IsSpan, AreSpans}
 use Rattle.vs_gtid.specs.Parts.{begun, ended, goes_on, behind_span, next, scanned_from, span}
 use Rattle.vs_gtid.proofs.ScanLemmas.{scan_some}
-
-pub or_false_parts : (a b : Bool) → (a || b) ≡ false → (a ≡ false) × (b ≡ false)
-or_false_parts true b h = let c : true ≡ false = h in cc
-or_false_parts false b h = (refl, h)
 
 lt-leb-false : (a b : ℕ) → a < b → nat_le b a ≡ false
 lt-leb-false a b h = grind (arith, nat_tests)
@@ -155,10 +151,10 @@ pub ends_by : (front uuid : List ℕ) (b : ℕ) → goes_on b ≡ false → Ends
 ends_by front uuid b h = record { step = step; ends = ends }
   where
     no_digit : is_ascii_digit b ≡ false
-    no_digit = (or_false_parts (is_ascii_digit b) (b == 45) h).0
+    no_digit = (or_parts (is_ascii_digit b) (b == 45) h).0
 
     no_dash : (b == 45) ≡ false
-    no_dash = (or_false_parts (is_ascii_digit b) (b == 45) h).1
+    no_dash = (or_parts (is_ascii_digit b) (b == 45) h).1
 
     step : (part : Part) → EndsSpan (length front) uuid part → next front part b ≡ behind_span uuid (length front) b
     step (First u from n) e = let l = lt-leb-false from (length front) e.1 in rw (no_digit, l, no_dash) (ap (λ (v : List ℕ). behind_span v (length front) b) e.0)

@@ -1,16 +1,12 @@
 -- Names that differ stand at one place each.
-use Rattle.std.proofs.Common.{◌≡◌, ℕ, zero, suc, Bool, true, false, not, ◌||◌, List, [], ◌∷◌, Some, refl, ap, sym, ◌∙◌}
+use Rattle.std.proofs.Common.{◌≡◌, ℕ, zero, suc, Bool, true, not, List, [], ◌∷◌, Some, refl, ap, sym, ◌∙◌}
 use Rattle.std.specs.List.{slice_get, list_any}
-use Rattle.std.proofs.lemmas.Bool.{and_parts}
+use Rattle.std.proofs.lemmas.Bool.{and_parts, or_right}
 use Rattle.vs_base.specs.Names.{names_differ, same_name}
 use Rattle.vs_base.specs.declared.shard_name.ShardName.{ShardName}
 use Rattle.vs_base.proofs.NameLemmas.{same_name-refl}
 use Rattle.vs_gtid.specs.declared.journal.JournalValue.{JournalValue}
 use Rattle.vs_journal.specs.Journals.{StandOnce, participant_names, successor_names}
-
-or_right : (a b : Bool) → b ≡ true → (a || b) ≡ true
-or_right true b is = refl
-or_right false b is = is
 
 found : {X : Type 0} (p : X → Bool) (xs : List X) (i : ℕ) (x : X) → slice_get xs i ≡ Some x → p x ≡ true → list_any p xs ≡ true
 found p [] i x is holds = cc

@@ -1,5 +1,6 @@
 -- A client that applies the changes of an entry, as the filter picks them and within the keys that it has, goes on having the picked rows of these keys.
 use Rattle.std.proofs.Common.{◌≡◌, ◌⊎◌, inl, inr, ⊎_elim, ℕ, Bool, true, false, cond, ◌||◌, ◌&&◌, List, [], ◌∷◌, ◌++◌, append_assoc, append-nil, map, Option, Some, None, IfSome, Contains, is_some, fold, filter_map, option_and_then, refl, ap, sym, ◌∙◌, subst, true≢false}
+use Rattle.std.proofs.Math.Bool.{and-false}
 use Rattle.std.specs.List.{cons_option}
 use Rattle.std.specs.Ordering.{is_eq, nat_cmp}
 use Rattle.std.specs.Cmp.{IsTotalOrder}
@@ -23,10 +24,6 @@ none_of (Some x) e = absurd (true≢false e)
 taken_away : (o : Option Image) → cond (is_some o) None o ≡ None
 taken_away None = refl
 taken_away (Some x) = refl
-
-and_false : (a : Bool) → (a && false) ≡ false
-and_false true = refl
-and_false false = refl
 
 -- the change with those images alone whose keys are within
 abbrev pub cut_image : Bound → (List ℕ → Image → Bool) → List ℕ → Option Image → Option Image
@@ -81,10 +78,10 @@ module _ (bound : Bound) (told_key : List ℕ → Image → Image) (keeps : Keep
       where
         by : (h : Bool) → is_eq (R (bound.key table row) k) ≡ h → false ≡ (within table k && (h && is_some (bound.row table row)))
         by true f = ap (λ w. w && is_some (bound.row table row)) (sym e ∙ alike (bound.key table row) k (equal_from o (bound.key table row) k f))
-        by false f = sym (and_false (within table k))
+        by false f = sym (and-false (within table k))
 
     is_told : (image : Option Image) → IsTold image
-    is_told None = sym (and_false (within table k))
+    is_told None = sym (and-false (within table k))
     is_told (Some row) = told_either row (within table (bound.key table row)) refl
 
     -- such an image is told whole

@@ -1,5 +1,6 @@
 -- All that the gate sends is lawful, where each of its lanes gave what its log lets it.
 use Rattle.std.proofs.Common.{◌≡◌, ◌≢◌, Bool, true, false, not, List, [], ◌∷◌, ◌++◌, append-nil, append_assoc, Option, Some, None, IsTrue, is_some, filter, refl, ap, sym, ◌∙◌, subst, ⊎_elim, true≢false}
+use Rattle.std.proofs.lemmas.Bool.{not-true}
 use Rattle.std.specs.List.{last_or, AllByRecursion}
 use Rattle.std.specs.Option.{option_map_or}
 use Rattle.std.proofs.lemmas.List.Elements.{filter-append}
@@ -70,16 +71,12 @@ not_all_copied s (Transaction told) w e = cc
 not_all_copied s (CopiedRows table rows time q l) w e = cc
 not_all_copied s (CopyEnd time q) w e = cc
 
-not_true : (b : Bool) → not b ≡ true → b ≡ false
-not_true true e = absurd (true≢false (sym e))
-not_true false e = refl
-
 -- the end of all copies is due only behind the end of a copy
 due_of_piece : (s : ShardName) (piece : Piece) (w : Vector) (before : Option Frame) → ends_copies piece w ≡ true →
     IsCopyDoneFrame (last_or before (filter is_no_beat (frame_of s piece w ∷ []))) × (some_copies w ≡ false)
 due_of_piece s (Transaction told) w before e = absurd (true≢false (sym e))
 due_of_piece s (CopiedRows table rows time q l) w before e = absurd (true≢false (sym e))
-due_of_piece s (CopyEnd time q) w before e = (tt, not_true (some_copies w) e)
+due_of_piece s (CopyEnd time q) w before e = (tt, not-true (some_copies w) e)
 
 module _ (cluster : Cluster) (rules : Filter) where
   -- a lane that gave more gave what it may before
@@ -280,7 +277,7 @@ module _ (cluster : Cluster) (rules : Filter) where
           } in
           subst (λ l. Kept (fs ++ l) new) (sym step.sent) (subst (Kept (fs ++ Switch step.j w ∷ [])) (sym step.is)
           (with_frame fs old switched_core (Switch step.j w) kept (step_switch cluster rules old.vector step.j (gathered step.j lanes step.arrived) canonical) refl canonical
-          (fit_filtered old.vector w stays (λ l e there. place_of-switched old.vector step.j l.shard (not_true (is_in l.shard step.j.participants) e) there) old.lanes kept.fit)
+          (fit_filtered old.vector w stays (λ l e there. place_of-switched old.vector step.j l.shard (not-true (is_in l.shard step.j.participants) e) there) old.lanes kept.fit)
           (λ e. absurd (let h : Switch step.j w ≡ AllCopied = e in cc))
           (λ e. absurd (true≢false (sym e)))))
 

@@ -7,26 +7,13 @@ use Rattle.std.specs.Cmp.Lexicographic.{slice_cmp}
 use Rattle.std.specs.declared.cmp.Ordering.{Ordering}
 use Rattle.std.specs.declared.cmp.Ordering.TheVariants.{Less, Equal, Greater}
 use Rattle.std.proofs.lemmas.Bool.{or_left, or_right}
-use Rattle.std.proofs.Math.Bool.{or-false}
+use Rattle.std.proofs.Math.Bool.{or-false, or_self_left, or_assoc}
 use Rattle.std.proofs.lemmas.Cmp.{alike_right}
+use Rattle.vs_base.proofs.BoolLemmas.{or_left_comm}
 use Rattle.vs_base.specs.declared.Change.{Change}
 use Rattle.vs_model.specs.Logs.{Image}
 use Rattle.vs_model.specs.Copy.{Bound, has_key, kept_if, row_after, row_at, key_put, key_put_at, keys_of}
 use Rattle.vs_model.specs.Copies.{AreAscending}
-
-or_again : (a b : Bool) → (a || (a || b)) ≡ (a || b)
-or_again true b = refl
-or_again false b = refl
-
-or_between : (a b c : Bool) → (a || (b || c)) ≡ (b || (a || c))
-or_between true true c = refl
-or_between true false c = refl
-or_between false b c = refl
-
-or_moved : (a b c : Bool) → ((a || b) || c) ≡ (b || (a || c))
-or_moved true true c = refl
-or_moved true false c = refl
-or_moved false b c = refl
 
 module _ {K : Type 0} {R : K → K → Ordering} (o : IsTotalOrder R) where
   pub less_turned : (x y : K) → R x y ≡ Less → R y x ≡ Greater
@@ -48,9 +35,9 @@ module _ {R : Image → Image → Ordering} (o : IsTotalOrder R) where
   put_at_any k x z zs rest Less e on = refl
   put_at_any k x z zs rest Equal e on =
       let any : Bool = list_any (λ y. is_eq (R y k)) zs in
-      sym (ap (λ s. is_eq s || (is_eq (R z k) || any)) (o.congr x z k e) ∙ or_again (is_eq (R z k)) any)
+      sym (ap (λ s. is_eq s || (is_eq (R z k) || any)) (o.congr x z k e) ∙ or_self_left (is_eq (R z k)) any)
   put_at_any k x z zs rest Greater e on =
-      ap (λ b. is_eq (R z k) || b) on ∙ or_between (is_eq (R z k)) (is_eq (R x k)) (list_any (λ y. is_eq (R y k)) zs)
+      ap (λ b. is_eq (R z k) || b) on ∙ or_left_comm (is_eq (R z k)) (is_eq (R x k)) (list_any (λ y. is_eq (R y k)) zs)
 
   -- a key is among the keys with one more where it is that one, or among the keys
   put_any : (k x : Image) (keys : List Image) →
@@ -63,7 +50,7 @@ module _ {R : Image → Image → Ordering} (o : IsTotalOrder R) where
   all_put_any k [] keys = sym (or-false (list_any (λ y. is_eq (R y k)) keys))
   all_put_any k (x ∷ more) keys =
       all_put_any k more (key_put R x keys) ∙ ap (λ b. b || list_any (λ y. is_eq (R y k)) more) (put_any k x keys)
-      ∙ or_moved (is_eq (R x k)) (list_any (λ y. is_eq (R y k)) keys) (list_any (λ y. is_eq (R y k)) more)
+      ∙ (or_assoc (is_eq (R x k)) (list_any (λ y. is_eq (R y k)) keys) (list_any (λ y. is_eq (R y k)) more) ∙ or_left_comm (is_eq (R x k)) (list_any (λ y. is_eq (R y k)) keys) (list_any (λ y. is_eq (R y k)) more))
 
   module _ (P : Image → Type 0) (x : Image) (p : P x) where
     put_at_all : (z : Image) (zs rest : List Image) (r : Ordering) → P z → AllByRecursion P zs → AllByRecursion P rest →

@@ -1,5 +1,6 @@
 -- A keyspace stands for its shards, in the order of their names.
 use Rattle.std.proofs.Common.{◌≡◌, ℕ, Bool, true, false, List, [], ◌∷◌, map, cond, refl, ap, sym, ◌∙◌}
+use Rattle.std.proofs.Math.Bool.{or_self_left}
 use Rattle.std.specs.Prelude.{◌&&◌, ◌||◌, nat_eq}
 use Rattle.std.specs.BTreeSet.{insert_key}
 use Rattle.std.specs.List.{AllByRecursion, filter}
@@ -12,6 +13,7 @@ use Rattle.std.proofs.lemmas.Bool.{and_parts}
 use Rattle.std.proofs.lemmas.Cmp.{nat_list_cmp_total}
 use Rattle.std.proofs.lemmas.Map.Lookups.{exact_bytes}
 use Rattle.std.proofs.lemmas.Slice.Eq.{bytes_eq-Decides}
+use Rattle.vs_base.proofs.BoolLemmas.{or_left_comm}
 use Rattle.vs_base.specs.Names.{same_name}
 use Rattle.vs_base.specs.declared.ShardName.{ShardName}
 use Rattle.vs_model.specs.Logs.{Cluster}
@@ -56,16 +58,6 @@ all_ascending : (P : ShardName → Type 0) (names : List ShardName) → AllByRec
 all_ascending P [] all = tt
 all_ascending P (s ∷ names) all = all_with P s (ascending names) all.0 (all_ascending P names all.1)
 
-twice : (a r : Bool) → (a || r) ≡ (a || (a || r))
-twice true r = refl
-twice false r = refl
-
-swapped : (a b r : Bool) → (a || (b || r)) ≡ (b || (a || r))
-swapped true true r = refl
-swapped true false r = refl
-swapped false true r = refl
-swapped false false r = refl
-
 alike : (q s u : ShardName) → s.keyspace ≡ u.keyspace → s.shard ≡ u.shard → same_name q s ≡ same_name q u
 unfolding same_name
 alike q s u k n = ap (λ keyspace. pointwise nat_eq q.keyspace keyspace && pointwise nat_eq q.shard s.shard) k ∙ ap (λ shard. pointwise nat_eq q.keyspace u.keyspace && pointwise nat_eq q.shard shard) n
@@ -78,8 +70,8 @@ is_in_with keyspace q s (u ∷ us) k all = go (by_shard s u) refl (is_in_with ke
     go : (o : Ordering) → by_shard s u ≡ o → is_in q (insert_key by_shard us s) ≡ (same_name q s || is_in q us)
         → is_in q (match_ordering o (s ∷ u ∷ us) (u ∷ us) (u ∷ insert_key by_shard us s)) ≡ (same_name q s || (same_name q u || is_in q us))
     go Less e rest = refl
-    go Equal e rest = twice (same_name q u) (is_in q us) ∙ ap (λ b. b || (same_name q u || is_in q us)) (sym (alike q s u (k ∙ sym all.0) (exact_bytes s.shard u.shard e)))
-    go Greater e rest = ap (λ b. same_name q u || b) rest ∙ swapped (same_name q u) (same_name q s) (is_in q us)
+    go Equal e rest = sym (or_self_left (same_name q u) (is_in q us)) ∙ ap (λ b. b || (same_name q u || is_in q us)) (sym (alike q s u (k ∙ sym all.0) (exact_bytes s.shard u.shard e)))
+    go Greater e rest = ap (λ b. same_name q u || b) rest ∙ or_left_comm (same_name q u) (same_name q s) (is_in q us)
 
 is_in_ascending : (keyspace : List ℕ) (q : ShardName) (names : List ShardName) → AllByRecursion (λ u. u.keyspace ≡ keyspace) names → is_in q (ascending names) ≡ is_in q names
 is_in_ascending keyspace q [] all = refl

@@ -1,10 +1,10 @@
 -- The machine takes what the productions say is a select, and can go on from each of its states.
 use Rattle.std.proofs.Common.{◌≡◌, ◌++◌, ◌+◌, ◌<◌, ℕ, zero, suc, Bool, true, false, List, [], ◌∷◌, Option, Some, None, codes, nat_eq, length, map, refl, ap, sym, ◌∙◌, subst, inl, inr, append_assoc, append-nil, arith}
-use Rattle.std.specs.Prelude.{option_map, not, ◌||◌, if◌then◌else◌}
+use Rattle.std.specs.Prelude.{option_map, not, if◌then◌else◌}
 use Rattle.std.specs.List.{AllByRecursion, IsDistinct, list_any}
 use Rattle.std.specs.Option.{option_and_then}
 use Rattle.std.specs.Cmp.Lexicographic.{pointwise}
-use Rattle.std.proofs.lemmas.Bool.{and_parts, and_right, eqb-true}
+use Rattle.std.proofs.lemmas.Bool.{and_parts, and_right, eqb-true, or_from}
 use Rattle.vs_select.specs.Grammar.{done, goes, literal_in, name_in, step, with_column, with_test}
 use Rattle.vs_select.specs.Parts.{is_keyword, lower}
 use Rattle.vs_select.specs.Productions.{AreColumns, AreMoreNames, AreSelect, AreTests, IsCondition, IsKeyword, IsLiteral, IsName}
@@ -104,14 +104,10 @@ all_at : (P : List ℕ → Type 0) (xs : List (List ℕ)) (x : List ℕ) (ys : L
 all_at P [] x ys h = h.0
 all_at P (z ∷ zs) x ys h = all_at P zs x ys h.1
 
-pub or_of_false : (a b : Bool) → a ≡ false → b ≡ false → (a || b) ≡ false
-or_of_false false b h k = k
-or_of_false true b h k = absurd (cc)
-
 not_before : (front : List (List ℕ)) (n : List ℕ) (ns : List (List ℕ)) → Distinct (front ++ n ∷ ns) → list_any (pointwise nat_eq n) front ≡ false
 unfolding IsDistinct
 not_before [] n ns d = refl
-not_before (m ∷ ms) n ns d = or_of_false (pointwise nat_eq n m) _ (same_ways n m ∙ all_at (λ y. pointwise nat_eq m y ≡ false) ms n ns d.0) (not_before ms n ns d.1)
+not_before (m ∷ ms) n ns d = or_from (pointwise nat_eq n m) _ (same_ways n m ∙ all_at (λ y. pointwise nat_eq m y ≡ false) ms n ns d.0) (not_before ms n ns d.1)
 
 by_column : (names : List (List ℕ)) (n : List ℕ) (ps : List Part) → list_any (pointwise nat_eq n) names ≡ false → option_and_then (λ u. accept u ps) (with_column names n) ≡ accept (Listed (names ++ n ∷ [])) ps
 by_column names n ps h = ap (λ b. option_and_then (λ u. accept u ps) (goes (not b) (Listed (names ++ n ∷ [])))) h
@@ -173,7 +169,7 @@ other_length (x ∷ xs) (y ∷ ys) h = and_right (nat_eq x y) (pointwise nat_eq 
 
 none_so_long : (names : List (List ℕ)) (n : List ℕ) → total names < length n → list_any (pointwise nat_eq n) names ≡ false
 none_so_long [] n h = refl
-none_so_long (m ∷ ms) n h = or_of_false (pointwise nat_eq n m) _ (other_length n m (omega arith)) (none_so_long ms n (omega arith))
+none_so_long (m ∷ ms) n h = or_from (pointwise nat_eq n m) _ (other_length n m (omega arith)) (none_so_long ms n (omega arith))
 
 -- a name that is none of these
 fresh : List (List ℕ) → List ℕ

@@ -1,7 +1,7 @@
 -- The machine over parts, and the productions: what is still to come from a state on.
 use Rattle.std.proofs.Common.{◌≡◌, ◌++◌, ◌⊎◌, ℕ, Bool, true, false, List, [], ◌∷◌, Option, Some, None, codes, nat_eq, refl, ap, sym, ◌∙◌, subst, inl, inr, ⊎_elim, append_assoc, append-nil}
-use Rattle.std.proofs.lemmas.Bool.{cases_eq, eq-eqb, ne_eqb}
-use Rattle.std.specs.Prelude.{option_map, not, ◌&&◌, ◌||◌, if◌then◌else◌}
+use Rattle.std.proofs.lemmas.Bool.{cases_eq, eq-eqb, ne_eqb, or_parts}
+use Rattle.std.specs.Prelude.{option_map, not, ◌&&◌, if◌then◌else◌}
 use Rattle.std.specs.List.{AllByRecursion, IsDistinct, list_any}
 use Rattle.std.specs.Option.{option_and_then}
 use Rattle.std.specs.Cmp.Lexicographic.{pointwise}
@@ -75,10 +75,6 @@ same_ways [] (y ∷ ys) = refl
 same_ways (x ∷ xs) [] = refl
 same_ways (x ∷ xs) (y ∷ ys) = ap (λ b. b && pointwise nat_eq xs ys) (eq_ways x y) ∙ ap (λ b. nat_eq y x && b) (same_ways xs ys)
 
-pub or_false : (a b : Bool) → (a || b) ≡ false → (a ≡ false) × (b ≡ false)
-or_false false b h = (refl, h)
-or_false true b h = absurd (cc)
-
 all_push : (P : List ℕ → Type 0) (xs : List (List ℕ)) (x : List ℕ) → AllByRecursion P xs → P x → AllByRecursion P (xs ++ x ∷ [])
 all_push P [] x all here = (here, tt)
 all_push P (y ∷ ys) x all here = (all.0, all_push P ys x all.1 here)
@@ -87,7 +83,7 @@ one_more_name : (names : List (List ℕ)) (n : List ℕ) → IsDistinct (pointwi
 unfolding IsDistinct
 one_more_name [] n d h = (tt, tt)
 one_more_name (m ∷ ms) n d h =
-    let parts = or_false (pointwise nat_eq n m) (list_any (pointwise nat_eq n) ms) h in
+    let parts = or_parts (pointwise nat_eq n m) (list_any (pointwise nat_eq n) ms) h in
     (all_push (λ y. pointwise nat_eq m y ≡ false) ms n d.0 (same_ways m n ∙ parts.0), one_more_name ms n d.1 parts.1)
 
 one_name : (n : List ℕ) → IsDistinct (pointwise nat_eq) (n ∷ [])

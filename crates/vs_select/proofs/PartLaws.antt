@@ -2,7 +2,7 @@
 use Rattle.std.proofs.Common.{◌≡◌, ◌++◌, ◌+◌, ◌-◌, ◌*◌, ◌^◌, ◌<◌, ◌≤◌, ℕ, zero, suc, Bool, true, false, List, [], ◌∷◌, Some, None, length, nat_le, refl, ap, sym, ◌∙◌, subst, inl, inr, append_assoc, arith}
 use Rattle.std.specs.Prelude.{◌&&◌, ◌==◌, if◌then◌else◌}
 use Rattle.std.specs.List.{fold, list_all, take_while}
-use Rattle.std.proofs.lemmas.Bool.{and_parts, and_from, eqb-true, leb-true, le-leb, lt-ltb}
+use Rattle.std.proofs.lemmas.Bool.{and_parts, and_from, eqb-true, leb-true, le-leb, lt-ltb, or_from, or_parts}
 use Rattle.vs_base.specs.Numbers.{digits_value, is_digit, small_value}
 use Rattle.vs_select.specs.Parts.{behind, closed, is_blank, is_word_byte, number_by, number_of_run, part_at, run_at, sign_at, sign_by, up_to_backquote}
 use Rattle.vs_select.specs.Productions.{AreDigitsOf, EndsAt, IsSign, IsWord, Spells, in_quotes, number_text}
@@ -10,8 +10,8 @@ use Rattle.vs_select.specs.declared.part.Part.{Part}
 use Rattle.vs_select.specs.declared.part.Part.TheVariants as part
 use Rattle.vs_select.specs.declared.select.Comparison.{Comparison}
 use Rattle.vs_select.specs.declared.select.Comparison.TheVariants.{Equal, NotEqual, Less, AtMost, Greater, AtLeast}
-use Rattle.vs_select.proofs.GrammarLaws.{or_false}
-use Rattle.vs_select.proofs.AcceptLaws.{or_of_false}
+
+
 use Rattle.vs_select.proofs.ReadLemmas.{digit-is-word, of_choice}
 use Rattle.vs_select.proofs.SpellLaws.{IsCut, Stands, alone, another, backquote_all, backquote_is, bytes_cut, ends_freely, ends_number, ends_word, front_and_rest, front_passes, no, number_stops, one_front, quote_all, quote_is, quoted_cut, sign_cut, stops_behind, while-yes, word_stops, yes}
 
@@ -104,9 +104,9 @@ begins_as p a b rest e h = let P : List ℕ → Type 0 = λ spelled. Begins p sp
 
 no_blank : (c : ℕ) → is_word_byte c ≡ true → is_blank c ≡ false
 no_blank c e =
-    or_of_false (c == 0x20) _ (another is_word_byte c 0x20 e refl) (
-    or_of_false (c == 0x09) _ (another is_word_byte c 0x09 e refl) (
-    or_of_false (c == 0x0D) _ (another is_word_byte c 0x0D e refl) (another is_word_byte c 0x0A e refl)))
+    or_from (c == 0x20) _ (another is_word_byte c 0x20 e refl) (
+    or_from (c == 0x09) _ (another is_word_byte c 0x09 e refl) (
+    or_from (c == 0x0D) _ (another is_word_byte c 0x0D e refl) (another is_word_byte c 0x0A e refl)))
 
 at_run : (c : ℕ) (cs : List ℕ) → is_word_byte c ≡ true → part_at c cs ≡ elim (is_digit c) [ true ↦ run_at (number_of_run false) (c ∷ cs) | false ↦ elim (is_word_byte c) [ true ↦ run_at part.Word (c ∷ cs) | false ↦ sign_at c cs ] ]
 at_run c cs e =
@@ -164,7 +164,7 @@ number_begins false size ds rest h ends = positive_all size ds rest h ends
 less_at : (rest : List ℕ) → EndsAt (part.Sign Less) rest → part_at 0x3C rest ≡ (part.Sign Less, rest)
 less_at [] h = refl
 less_at (d ∷ ds) h =
-    let parts = or_false (d == 0x3D) (d == 0x3E) h in
+    let parts = or_parts (d == 0x3D) (d == 0x3E) h in
     ap (λ o. sign_by o 0x3C d ds) (no (d == 0x3E) _ _ parts.1 ∙ no (d == 0x3D) _ _ parts.0)
 
 greater_at : (rest : List ℕ) → EndsAt (part.Sign Greater) rest → part_at 0x3E rest ≡ (part.Sign Greater, rest)

@@ -3,7 +3,7 @@ use Rattle.std.proofs.Common.{◌≡◌, ◌++◌, ◌⊎◌, ◌-◌, ℕ, Bool
 use Rattle.std.specs.Prelude.{◌||◌, ◌==◌, ◌&&◌, nat_le}
 use Rattle.std.specs.List.{list_all, take_while}
 use Rattle.std.specs.Option.{option_and_then}
-use Rattle.std.proofs.lemmas.Bool.{eqb-true, or_cases}
+use Rattle.std.proofs.lemmas.Bool.{eqb-true, or_cases, or_left, or_right}
 use Rattle.vs_base.specs.Numbers.{is_digit, small_value}
 use Rattle.vs_select.specs.Grammar.{done, ended, finished, run, select_of, step}
 use Rattle.vs_select.specs.Parts.{Next, behind, closed, is_blank, is_word_byte, left_at, long_sign, next_in, next_part, number_by, number_of_run, part_at, parts, placed, short_sign, sign_at, sign_by, sign_part, up_to_backquote, up_to_quote}
@@ -104,19 +104,11 @@ sign_closed : (c : ℕ) (cs : List ℕ) → (sign_at c cs).0 ≡ part.Unclosed �
 sign_closed c [] h = sign_part_closed (short_sign c) h
 sign_closed c (d ∷ cs) h = sign_by_closed (long_sign c d) c d cs h
 
-or_first : (a b : Bool) → a ≡ true → (a || b) ≡ true
-or_first true b h = refl
-or_first false b h = absurd (cc)
-
-or_second : (a b : Bool) → b ≡ true → (a || b) ≡ true
-or_second true b h = refl
-or_second false b h = h
-
 pub unclosed_opens : (c : ℕ) (cs : List ℕ) → (part_at c cs).0 ≡ part.Unclosed → (c == 0x27 || c == 0x60) ≡ true
 unclosed_opens c cs =
     let P : Part × List ℕ → Type 0 = λ cut. cut.0 ≡ part.Unclosed → (c == 0x27 || c == 0x60) ≡ true in
-    of_choice P (c == 0x60) _ _ (λ e _. or_second (c == 0x27) (c == 0x60) e) (λ _.
-    of_choice P (c == 0x27) _ _ (λ e _. or_first (c == 0x27) (c == 0x60) e) (λ _.
+    of_choice P (c == 0x60) _ _ (λ e _. or_right (c == 0x27) (c == 0x60) e) (λ _.
+    of_choice P (c == 0x27) _ _ (λ e _. or_left (c == 0x27) (c == 0x60) e) (λ _.
     of_choice P (c == 0x2A) _ _ (λ _ h. absurd (cc)) (λ _.
     of_choice P (c == 0x2C) _ _ (λ _ h. absurd (cc)) (λ _.
     of_choice P (c == 0x2D) _ _ (λ _ h. absurd (number_closed true (take_while is_word_byte cs) h)) (λ _.

@@ -2,7 +2,7 @@
 use Rattle.std.proofs.Common.{◌≡◌, ◌++◌, ◌+◌, ℕ, Bool, true, false, List, [], ◌∷◌, Option, Some, None, cond, drop, refl, ap, sym, ◌∙◌, inl, inr, append_assoc}
 use Rattle.std.specs.Prelude.{not, ◌&&◌, ◌==◌}
 use Rattle.std.specs.List.{list_all, prefix_len, take_while}
-use Rattle.std.proofs.lemmas.Bool.{and_parts, and_from, eqb-true, not-true}
+use Rattle.std.proofs.lemmas.Bool.{and_parts, and_from, eqb-true, not-true, or_from}
 use Rattle.std.proofs.lemmas.List.{take-append-drop}
 use Rattle.std.proofs.lemmas.List.Sums.{take_while-cons}
 use Rattle.vs_select.specs.Parts.{behind, closed, is_word_byte, short_sign, sign_at, sign_by, sign_part, up_to_backquote, up_to_quote, with_byte}
@@ -11,7 +11,7 @@ use Rattle.vs_select.specs.declared.part.Part.{Part}
 use Rattle.vs_select.specs.declared.part.Part.TheVariants as part
 use Rattle.vs_select.specs.declared.select.Comparison.{Comparison}
 use Rattle.vs_select.specs.declared.select.Comparison.TheVariants.{NotEqual, AtMost, AtLeast}
-use Rattle.vs_select.proofs.AcceptLaws.{or_of_false}
+
 use Rattle.vs_select.proofs.ReadLemmas.{behind-first, of_choice}
 
 -- ---- choices
@@ -219,5 +219,5 @@ sign_cut c (d ∷ cs) =
     of_choice P (c == 0x3C && d == 0x3D) _ _ (λ e. λ _. (c ∷ d ∷ [], refl, pair c d 0x3C 0x3D e, ends_freely (part.Sign AtMost) cs (λ _. refl))) (λ not_at_most.
     of_choice P (c == 0x3E && d == 0x3D) _ _ (λ e. λ _. (c ∷ d ∷ [], refl, pair c d 0x3E 0x3D e, ends_freely (part.Sign AtLeast) cs (λ _. refl))) (λ not_at_least.
     of_choice Q (c == 0x3D) _ _ (λ e. λ _. (c ∷ [], refl, alone c 0x3D e, refl)) (λ _.
-    of_choice Q (c == 0x3C) _ _ (λ e. λ _. (c ∷ [], refl, alone c 0x3C e, or_of_false (d == 0x3D) (d == 0x3E) (other_second (c == 0x3C) (d == 0x3D) not_at_most e) (other_second (c == 0x3C) (d == 0x3E) not_unequal e))) (λ _.
+    of_choice Q (c == 0x3C) _ _ (λ e. λ _. (c ∷ [], refl, alone c 0x3C e, or_from (d == 0x3D) (d == 0x3E) (other_second (c == 0x3C) (d == 0x3D) not_at_most e) (other_second (c == 0x3C) (d == 0x3E) not_unequal e))) (λ _.
     of_choice Q (c == 0x3E) _ _ (λ e. λ _. (c ∷ [], refl, alone c 0x3E e, other_second (c == 0x3E) (d == 0x3D) not_at_least e)) (λ _. λ stands. absurd stands)))))))
