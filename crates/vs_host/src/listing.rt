@@ -9,6 +9,7 @@ ghost use Rattle.vs_outside.specs.Names.{is_shard_text};
 use crate::path::folder_path;
 use std::alloc::Global;
 use std::collections::BTreeSet;
+use std::fs::ReadDir;
 use std::io::ErrorKind;
 use std::rt::Files;
 use std::{fs, io};
@@ -77,6 +78,22 @@ fn add_file(names: &mut BTreeSet<Text>, alloc: Global, file: &str) -> Result<(),
     Ok(())
 }
 
+/// What lies in the folder, or none where it is missing. An interrupted call is tried again.
+fn open_folder<R: Files + Alloc + Clone + Drop>(
+    rt: &R,
+    path: &str,
+) -> Result<Option<ReadDir<R, R::A>>, AskEnd> {
+    for _ in 0..u64::MAX {
+        match fs::read_dir(rt, path) {
+            Ok(entries) => return Ok(Some(entries)),
+            Err(error) if error.kind() == ErrorKind::NotFound => return Ok(None),
+            Err(error) if error.kind() == ErrorKind::Interrupted => {}
+            Err(error) => return Err(end_of(&error)),
+        }
+    }
+    Err(AskEnd::Failed)
+}
+
 /// The shards whose logs lie in the keyspace's folder, ascending; or none where there is none.
 pub fn names_in<R: Files + Alloc + Clone + Drop>(
     rt: &R,
@@ -89,10 +106,8 @@ pub fn names_in<R: Files + Alloc + Clone + Drop>(
     let Some(path) = folder_path(alloc, folder, keyspace)? else {
         return Ok(None);
     };
-    let entries = match fs::read_dir(rt, path.as_str()) {
-        Ok(entries) => entries,
-        Err(error) if error.kind() == ErrorKind::NotFound => return Ok(None),
-        Err(error) => return Err(end_of(&error)),
+    let Some(entries) = open_folder(rt, path.as_str())? else {
+        return Ok(None);
     };
     let mut names: BTreeSet<Text> = BTreeSet::new(alloc);
     for entry in entries {
