@@ -94,7 +94,29 @@ fn open_folder<R: Files + Alloc + Clone + Drop>(
     Err(AskEnd::Failed)
 }
 
-/// The shards whose logs lie in the keyspace's folder, ascending; or none where there is none.
+/// The shards whose logs are among the entries, or none where their reading was interrupted.
+fn read_names<R: Files + Alloc + Clone + Drop>(
+    alloc: Global,
+    entries: ReadDir<R, R::A>,
+) -> Result<Option<BTreeSet<Text>>, AskEnd>
+    ensures { IfOk result (λ o. IfSome o (λ names. All (λ name. IsTrue (is_shard_text name)) names.keys)) }
+{
+    let mut names: BTreeSet<Text> = BTreeSet::new(alloc);
+    for entry in entries {
+        match entry {
+            Ok(entry) => {
+                add_file(&mut names, alloc, entry.file_name())?;
+            }
+            Err(error) if error.kind() == ErrorKind::InvalidFilename => {}
+            Err(error) if error.kind() == ErrorKind::Interrupted => return Ok(None),
+            Err(error) => return Err(end_of(&error)),
+        }
+    }
+    Ok(Some(names))
+}
+
+/// The shards whose logs lie in the keyspace's folder, ascending; or none where there is none. What
+/// was interrupted is begun again.
 pub fn names_in<R: Files + Alloc + Clone + Drop>(
     rt: &R,
     alloc: Global,
@@ -106,18 +128,13 @@ pub fn names_in<R: Files + Alloc + Clone + Drop>(
     let Some(path) = folder_path(alloc, folder, keyspace)? else {
         return Ok(None);
     };
-    let Some(entries) = open_folder(rt, path.as_str())? else {
-        return Ok(None);
-    };
-    let mut names: BTreeSet<Text> = BTreeSet::new(alloc);
-    for entry in entries {
-        match entry {
-            Ok(entry) => {
-                add_file(&mut names, alloc, entry.file_name())?;
-            }
-            Err(error) if error.kind() == ErrorKind::InvalidFilename => {}
-            Err(error) => return Err(end_of(&error)),
+    for _ in 0..u64::MAX {
+        let Some(entries) = open_folder(rt, path.as_str())? else {
+            return Ok(None);
+        };
+        if let Some(names) = read_names(alloc, entries)? {
+            return Ok(in_order(alloc, names)?);
         }
     }
-    Ok(in_order(alloc, names)?)
+    Err(AskEnd::Failed)
 }
