@@ -58,26 +58,29 @@ fn sets_are_compared_and_united(rt: HostRuntime) -> Result<(), Fail> {
     Ok(())
 }
 
+/// The block of the numbers 1 to 5 of the UUID: how many UUIDs, the one, how many intervals, and
+/// the beginning and the end of the one.
+const BLOCK: [u8; 48] = [
+    1, 0, 0, 0, 0, 0, 0, 0, // one UUID
+    0, 0, 0, 0, 0, 0, 0, 0, 0, 0, 0, 0, 0, 0, 0, 1, // the UUID
+    1, 0, 0, 0, 0, 0, 0, 0, // one interval
+    1, 0, 0, 0, 0, 0, 0, 0, // from 1
+    6, 0, 0, 0, 0, 0, 0, 0, // to before 6
+];
+
 #[test]
 fn a_block_is_read(rt: HostRuntime) -> Result<(), Fail> {
     let alloc = rt.alloc();
-    let mut block = Vec::from_slice(alloc, &[1, 0, 0, 0, 0, 0, 0, 0])?;
-    block.extend_from_slice(&UUID)?;
-    block.extend_from_slice(&[1, 0, 0, 0, 0, 0, 0, 0])?;
-    block.extend_from_slice(&[1, 0, 0, 0, 0, 0, 0, 0])?;
-    block.extend_from_slice(&[6, 0, 0, 0, 0, 0, 0, 0])?;
-    expect_text(
-        &rt,
-        alloc,
-        &GtidSet::from_block(alloc, block.as_slice())?,
-        b":1-5",
-    )?;
-    block.truncate(47);
-    match GtidSet::from_block(alloc, block.as_slice()) {
+    let set = GtidSet::from_block(alloc, &BLOCK)?;
+    expect_text(&rt, alloc, &set, b":1-5")
+}
+
+#[test]
+fn a_block_is_cut(rt: HostRuntime) {
+    match GtidSet::from_block(rt.alloc(), &BLOCK[..47]) {
         Ok(_) => assert!(rt; false, "a cut block was read"),
         Err(refusal) => assert_eq!(rt; refusal, GtidRefusal::BadBlock { at: 40 }),
     }
-    Ok(())
 }
 
 fn expect_printed(rt: &impl Abort, alloc: Global, text: &[u8], printed: &[u8]) -> Result<(), Fail> {
@@ -95,49 +98,100 @@ fn expect_refused(rt: &impl Abort, alloc: Global, text: &[u8], refusal: GtidRefu
     }
 }
 
+/// A text of a set, and the set's own text.
+struct Printed {
+    text: &'static [u8],
+    printed: &'static [u8],
+}
+
+static PRINTED: [Printed; 5] = [
+    Printed {
+        text: b"",
+        printed: b"",
+    },
+    Printed {
+        text: b"MySQL56/ \t\r\n",
+        printed: b"",
+    },
+    Printed {
+        text: b"00000000-0000-0000-0000-00000000000A:3, 00000000-0000-0000-0000-00000000000a:1-2:5:2",
+        printed: b"00000000-0000-0000-0000-00000000000a:1-3:5",
+    },
+    Printed {
+        text: b"MySQL56/00000000-0000-0000-0000-00000000000b:7 ,00000000-0000-0000-0000-000000000001:01-02",
+        printed: b"00000000-0000-0000-0000-000000000001:1-2,00000000-0000-0000-0000-00000000000b:7",
+    },
+    Printed {
+        text: b"00000000-0000-0000-0000-000000000001:9223372036854775806",
+        printed: b"00000000-0000-0000-0000-000000000001:9223372036854775806",
+    },
+];
+
 #[test]
 fn texts_are_read(rt: HostRuntime) -> Result<(), Fail> {
-    let alloc = rt.alloc();
-    let rows: [(&[u8], &[u8]); 5] = [
-        (b"", b""),
-        (b"MySQL56/ \t\r\n", b""),
-        (
-            b"00000000-0000-0000-0000-00000000000A:3, 00000000-0000-0000-0000-00000000000a:1-2:5:2",
-            b"00000000-0000-0000-0000-00000000000a:1-3:5",
-        ),
-        (
-            b"MySQL56/00000000-0000-0000-0000-00000000000b:7 ,00000000-0000-0000-0000-000000000001:01-02",
-            b"00000000-0000-0000-0000-000000000001:1-2,00000000-0000-0000-0000-00000000000b:7",
-        ),
-        (
-            b"00000000-0000-0000-0000-000000000001:9223372036854775806",
-            b"00000000-0000-0000-0000-000000000001:9223372036854775806",
-        ),
-    ];
-    for (text, printed) in rows {
-        expect_printed(&rt, alloc, text, printed)?;
+    for case in &PRINTED {
+        expect_printed(&rt, rt.alloc(), case.text, case.printed)?;
     }
+    Ok(())
+}
+
+/// What stands behind a UUID, and why the text is refused.
+struct RefusedSpans {
+    spans: &'static [u8],
+    refusal: GtidRefusal,
+}
+
+static REFUSED: [RefusedSpans; 9] = [
+    RefusedSpans {
+        spans: b":0",
+        refusal: GtidRefusal::ZeroNumber { at: 37 },
+    },
+    RefusedSpans {
+        spans: b":5-3",
+        refusal: GtidRefusal::EmptyInterval { at: 39 },
+    },
+    RefusedSpans {
+        spans: b":0,x",
+        refusal: GtidRefusal::BadText { at: 39 },
+    },
+    RefusedSpans {
+        spans: b"",
+        refusal: GtidRefusal::BadText { at: 36 },
+    },
+    RefusedSpans {
+        spans: b":1-",
+        refusal: GtidRefusal::BadText { at: 39 },
+    },
+    RefusedSpans {
+        spans: b":1x",
+        refusal: GtidRefusal::BadText { at: 38 },
+    },
+    RefusedSpans {
+        spans: b":5-3:0",
+        refusal: GtidRefusal::ZeroNumber { at: 41 },
+    },
+    RefusedSpans {
+        spans: b":9223372036854775807x",
+        refusal: GtidRefusal::BadText { at: 37 },
+    },
+    RefusedSpans {
+        spans: b":00000000000000000001",
+        refusal: GtidRefusal::BadText { at: 56 },
+    },
+];
+
+fn expect_refused_spans(rt: &impl Abort, alloc: Global, case: &RefusedSpans) -> Result<(), Fail> {
+    let mut text = Vec::from_slice(alloc, b"00000000-0000-0000-0000-000000000001")?;
+    text.extend_from_slice(case.spans)?;
+    expect_refused(rt, alloc, text.as_slice(), case.refusal);
     Ok(())
 }
 
 #[test]
 fn texts_are_refused(rt: HostRuntime) -> Result<(), Fail> {
     let alloc = rt.alloc();
-    let rows: [(&[u8], GtidRefusal); 9] = [
-        (b":0", GtidRefusal::ZeroNumber { at: 37 }),
-        (b":5-3", GtidRefusal::EmptyInterval { at: 39 }),
-        (b":0,x", GtidRefusal::BadText { at: 39 }),
-        (b"", GtidRefusal::BadText { at: 36 }),
-        (b":1-", GtidRefusal::BadText { at: 39 }),
-        (b":1x", GtidRefusal::BadText { at: 38 }),
-        (b":5-3:0", GtidRefusal::ZeroNumber { at: 41 }),
-        (b":9223372036854775807x", GtidRefusal::BadText { at: 37 }),
-        (b":00000000000000000001", GtidRefusal::BadText { at: 56 }),
-    ];
-    for (spans, refusal) in rows {
-        let mut text = Vec::from_slice(alloc, b"00000000-0000-0000-0000-000000000001")?;
-        text.extend_from_slice(spans)?;
-        expect_refused(&rt, alloc, text.as_slice(), refusal);
+    for case in &REFUSED {
+        expect_refused_spans(&rt, alloc, case)?;
     }
     expect_refused(&rt, alloc, b"x", GtidRefusal::BadText { at: 0 });
     expect_refused(&rt, alloc, b"MyS", GtidRefusal::BadText { at: 3 });

@@ -1,6 +1,9 @@
 //! Reads and writes that a signal may interrupt.
-ghost use Rattle.std.specs.Prelude.{◌≤◌, ◌<◌, length, IfOk};
+ghost use Rattle.std.specs.Prelude.{◌≤◌, ◌<◌, ◌≢◌, length, IfErr, IfOk};
+ghost use Rattle.std.specs.IoError.{error_kind};
 
+use std::alloc::Global;
+use std::io;
 use std::io::{ErrorKind, Read};
 use vs_outside::Failed;
 
@@ -17,6 +20,17 @@ pub fn read_again<R: Read>(reader: &mut R, buf: &mut [u8]) -> Result<usize, Fail
         }
     }
     Err(Failed)
+}
+
+/// Reads to the end, again after each interrupt.
+pub fn read_rest<R: Read>(reader: &mut R, alloc: Global) -> io::Result<Vec<u8>>
+    ensures { IfErr result (λ e. error_kind e ≢ ErrorKind.Interrupted) }
+{
+    let mut bytes = Vec::new(alloc);
+    match reader.read_to_end(&mut bytes) {
+        Ok(_) => Ok(bytes),
+        Err(error) => Err(error),
+    }
 }
 
 /// Writes, again after each interrupt, and takes at least one byte of a piece that has one. Every

@@ -1,12 +1,13 @@
 ghost use Rattle.std.specs.Prelude.{◌≡◌, ◌++◌, ◌∷◌, [], IfOk, IfSome, OnErr, OnOk};
 
 use crate::FileFeed;
+use crate::again::read_rest;
 use crate::listing::{end_of, names_in};
 use crate::path::file_path;
 use std::alloc::Global;
 use std::fs;
 use std::fs::File;
-use std::io::{ErrorKind, Read};
+use std::io::ErrorKind;
 use std::rt::Files;
 use vs_base::{OutOfMemory, ShardName, Text};
 use vs_outside::{AskEnd, Feed, Opened, Openings, Tablets};
@@ -35,13 +36,17 @@ impl<R: Files<File = File> + Drop> FolderTablets<R> {
     }
 }
 
-/// The file of the path, or none where it is missing.
+/// The file of the path, or none where it is missing. An interrupted call is tried again.
 fn open_file<R: Files<File = File>>(rt: &R, path: &str) -> Result<Option<File>, AskEnd> {
-    match fs::open(rt, path) {
-        Ok(file) => Ok(Some(file)),
-        Err(error) if error.kind() == ErrorKind::NotFound => Ok(None),
-        Err(error) => Err(end_of(&error)),
+    for _ in 0..u64::MAX {
+        match fs::open(rt, path) {
+            Ok(file) => return Ok(Some(file)),
+            Err(error) if error.kind() == ErrorKind::NotFound => return Ok(None),
+            Err(error) if error.kind() == ErrorKind::Interrupted => {}
+            Err(error) => return Err(end_of(&error)),
+        }
     }
+    Err(AskEnd::Failed)
 }
 
 /// The bytes of the path's file; none at all where it is missing.
@@ -49,9 +54,8 @@ fn read_whole<R: Files<File = File>>(rt: &R, alloc: Global, path: &str) -> Resul
     let Some(mut file) = open_file(rt, path)? else {
         return Ok(Text::new(alloc));
     };
-    let mut bytes = Vec::new(alloc);
-    match file.read_to_end(&mut bytes) {
-        Ok(_) => Ok(Text::from_vec(bytes)),
+    match read_rest(&mut file, alloc) {
+        Ok(bytes) => Ok(Text::from_vec(bytes)),
         Err(error) => Err(end_of(&error)),
     }
 }

@@ -9,6 +9,7 @@ ghost use Rattle.vs_outside.specs.Names.{is_shard_text};
 use crate::path::folder_path;
 use std::alloc::Global;
 use std::collections::BTreeSet;
+use std::fs::ReadDir;
 use std::io::ErrorKind;
 use std::rt::Files;
 use std::{fs, io};
@@ -77,7 +78,45 @@ fn add_file(names: &mut BTreeSet<Text>, alloc: Global, file: &str) -> Result<(),
     Ok(())
 }
 
-/// The shards whose logs lie in the keyspace's folder, ascending; or none where there is none.
+/// What lies in the folder, or none where it is missing. An interrupted call is tried again.
+fn open_folder<R: Files + Alloc + Clone + Drop>(
+    rt: &R,
+    path: &str,
+) -> Result<Option<ReadDir<R, R::A>>, AskEnd> {
+    for _ in 0..u64::MAX {
+        match fs::read_dir(rt, path) {
+            Ok(entries) => return Ok(Some(entries)),
+            Err(error) if error.kind() == ErrorKind::NotFound => return Ok(None),
+            Err(error) if error.kind() == ErrorKind::Interrupted => {}
+            Err(error) => return Err(end_of(&error)),
+        }
+    }
+    Err(AskEnd::Failed)
+}
+
+/// The shards whose logs are among the entries, or none where their reading was interrupted.
+fn read_names<R: Files + Alloc + Clone + Drop>(
+    alloc: Global,
+    entries: ReadDir<R, R::A>,
+) -> Result<Option<BTreeSet<Text>>, AskEnd>
+    ensures { IfOk result (λ o. IfSome o (λ names. All (λ name. IsTrue (is_shard_text name)) names.keys)) }
+{
+    let mut names: BTreeSet<Text> = BTreeSet::new(alloc);
+    for entry in entries {
+        match entry {
+            Ok(entry) => {
+                add_file(&mut names, alloc, entry.file_name())?;
+            }
+            Err(error) if error.kind() == ErrorKind::InvalidFilename => {}
+            Err(error) if error.kind() == ErrorKind::Interrupted => return Ok(None),
+            Err(error) => return Err(end_of(&error)),
+        }
+    }
+    Ok(Some(names))
+}
+
+/// The shards whose logs lie in the keyspace's folder, ascending; or none where there is none. What
+/// was interrupted is begun again.
 pub fn names_in<R: Files + Alloc + Clone + Drop>(
     rt: &R,
     alloc: Global,
@@ -89,20 +128,13 @@ pub fn names_in<R: Files + Alloc + Clone + Drop>(
     let Some(path) = folder_path(alloc, folder, keyspace)? else {
         return Ok(None);
     };
-    let entries = match fs::read_dir(rt, path.as_str()) {
-        Ok(entries) => entries,
-        Err(error) if error.kind() == ErrorKind::NotFound => return Ok(None),
-        Err(error) => return Err(end_of(&error)),
-    };
-    let mut names: BTreeSet<Text> = BTreeSet::new(alloc);
-    for entry in entries {
-        match entry {
-            Ok(entry) => {
-                add_file(&mut names, alloc, entry.file_name())?;
-            }
-            Err(error) if error.kind() == ErrorKind::InvalidFilename => {}
-            Err(error) => return Err(end_of(&error)),
+    for _ in 0..u64::MAX {
+        let Some(entries) = open_folder(rt, path.as_str())? else {
+            return Ok(None);
+        };
+        if let Some(names) = read_names(alloc, entries)? {
+            return Ok(in_order(alloc, names)?);
         }
     }
-    Ok(in_order(alloc, names)?)
+    Err(AskEnd::Failed)
 }

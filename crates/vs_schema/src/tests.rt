@@ -62,28 +62,84 @@ fn tables_ascend_and_some_are_skipped(rt: HostRuntime) -> Result<(), Fail> {
     Ok(())
 }
 
+/// A text, and the line at which it is refused; 0 where it is read.
+struct LineCase {
+    text: &'static [u8],
+    line: usize,
+}
+
+static LINES: [LineCase; 17] = [
+    LineCase {
+        text: b"column id int",
+        line: 1,
+    },
+    LineCase { text: b"", line: 0 },
+    LineCase {
+        text: b"table t",
+        line: 2,
+    },
+    LineCase {
+        text: b"table t\n\n",
+        line: 3,
+    },
+    LineCase {
+        text: b"table t\ntable u\n",
+        line: 2,
+    },
+    LineCase {
+        text: b"table t\ncolumn a int\ntable t",
+        line: 3,
+    },
+    LineCase {
+        text: b"table t\ncolumn a int\nskip t",
+        line: 3,
+    },
+    LineCase {
+        text: b"table t\ncolumn a int\ncolumn a int",
+        line: 3,
+    },
+    LineCase {
+        text: b"table t\ncolumn a int\nkey b",
+        line: 3,
+    },
+    LineCase {
+        text: b"table t\ncolumn a int\nkey a a",
+        line: 3,
+    },
+    LineCase {
+        text: b"table t\ncolumn a int\nkey a\nkey a",
+        line: 4,
+    },
+    LineCase {
+        text: b"table t\ncolumn a blob\nkey a",
+        line: 3,
+    },
+    LineCase {
+        text: b"table t\ncolumn a int\nkey",
+        line: 3,
+    },
+    LineCase {
+        text: b"table  t",
+        line: 1,
+    },
+    LineCase {
+        text: b"table t ",
+        line: 1,
+    },
+    LineCase {
+        text: b"Table t",
+        line: 1,
+    },
+    LineCase {
+        text: b" # none",
+        line: 1,
+    },
+];
+
 #[test]
 fn lines_at_fault_are_told(rt: HostRuntime) {
-    for (text, line) in [
-        (b"column id int".as_slice(), 1),
-        (b"", 0),
-        (b"table t", 2),
-        (b"table t\n\n", 3),
-        (b"table t\ntable u\n", 2),
-        (b"table t\ncolumn a int\ntable t", 3),
-        (b"table t\ncolumn a int\nskip t", 3),
-        (b"table t\ncolumn a int\ncolumn a int", 3),
-        (b"table t\ncolumn a int\nkey b", 3),
-        (b"table t\ncolumn a int\nkey a a", 3),
-        (b"table t\ncolumn a int\nkey a\nkey a", 4),
-        (b"table t\ncolumn a blob\nkey a", 3),
-        (b"table t\ncolumn a int\nkey", 3),
-        (b"table  t", 1),
-        (b"table t ", 1),
-        (b"Table t", 1),
-        (b" # none", 1),
-    ] {
-        assert_eq!(rt; refused_line(rt.alloc(), text), line);
+    for case in &LINES {
+        assert_eq!(rt; refused_line(rt.alloc(), case.text), case.line);
     }
 }
 

@@ -2,54 +2,71 @@ use crate::{
     Field, FieldValue, Fields, WireRefusal, get_varint, put_bytes, put_number, put_varint,
     varint_len,
 };
+use std::alloc::Global;
+use std::process::Abort;
 use std::test::Fail;
+
+/// A number, and its one spelling.
+struct Spelled {
+    number: u64,
+    bytes: &'static [u8],
+}
+
+static SPELLED: [Spelled; 6] = [
+    Spelled {
+        number: 0,
+        bytes: b"\x00",
+    },
+    Spelled {
+        number: 127,
+        bytes: b"\x7f",
+    },
+    Spelled {
+        number: 178,
+        bytes: b"\xb2\x01",
+    },
+    Spelled {
+        number: 16_384,
+        bytes: b"\x80\x80\x01",
+    },
+    Spelled {
+        number: 0x7fff_ffff_ffff_ffff,
+        bytes: b"\xff\xff\xff\xff\xff\xff\xff\xff\x7f",
+    },
+    Spelled {
+        number: 0xffff_ffff_ffff_ffff,
+        bytes: b"\xff\xff\xff\xff\xff\xff\xff\xff\xff\x01",
+    },
+];
+
+fn expect_spelled(rt: &impl Abort, alloc: Global, case: &Spelled) -> Result<(), Fail> {
+    let mut out = Vec::new(alloc);
+    put_varint(alloc, &mut out, case.number)?;
+    assert_eq!(rt; out.as_slice(), case.bytes);
+    assert_eq!(rt; varint_len(case.number), case.bytes.len());
+    assert_eq!(rt; get_varint(case.bytes), Ok((case.number, case.bytes.len())));
+    Ok(())
+}
 
 #[test]
 fn numbers_are_spelled_and_read(rt: HostRuntime) -> Result<(), Fail> {
-    let cases: [(u64, &[u8]); 6] = [
-        (0, b"\x00"),
-        (127, b"\x7f"),
-        (178, b"\xb2\x01"),
-        (16_384, b"\x80\x80\x01"),
-        (
-            0x7fff_ffff_ffff_ffff,
-            b"\xff\xff\xff\xff\xff\xff\xff\xff\x7f",
-        ),
-        (
-            0xffff_ffff_ffff_ffff,
-            b"\xff\xff\xff\xff\xff\xff\xff\xff\xff\x01",
-        ),
-    ];
-    for (n, bytes) in cases {
-        let mut out = Vec::new(rt.alloc());
-        put_varint(rt.alloc(), &mut out, n)?;
-        assert_eq!(rt; out.as_slice(), bytes);
-        assert_eq!(rt; varint_len(n), bytes.len());
-        assert_eq!(rt; get_varint(bytes), Ok((n, bytes.len())));
+    for case in &SPELLED {
+        expect_spelled(&rt, rt.alloc(), case)?;
     }
     Ok(())
 }
 
 #[test]
 fn numbers_are_refused(rt: HostRuntime) {
-    let cases: [(&[u8], Result<(u64, usize), WireRefusal>); 4] = [
-        (b"\xb2", Err(WireRefusal::Cut { at: 0 })),
-        (
-            b"\x80\x80\x80\x80\x80\x80\x80\x80\x80",
-            Err(WireRefusal::Cut { at: 0 }),
-        ),
-        (
-            b"\x80\x80\x80\x80\x80\x80\x80\x80\x80\x80\x80",
-            Err(WireRefusal::LongVarint { at: 0 }),
-        ),
-        (
-            b"\x80\x80\x80\x80\x80\x80\x80\x80\x80\x7f",
-            Ok((0x8000_0000_0000_0000, 10)),
-        ),
-    ];
-    for (bytes, want) in cases {
-        assert_eq!(rt; get_varint(bytes), want);
-    }
+    let cut = Err(WireRefusal::Cut { at: 0 });
+    assert_eq!(rt; get_varint(b"\xb2"), cut);
+    assert_eq!(rt; get_varint(&[0x80; 9]), cut);
+    assert_eq!(rt;
+        get_varint(&[0x80; 11]),
+        Err(WireRefusal::LongVarint { at: 0 })
+    );
+    let more_bits = b"\x80\x80\x80\x80\x80\x80\x80\x80\x80\x7f";
+    assert_eq!(rt; get_varint(more_bits), Ok((0x8000_0000_0000_0000, 10)));
 }
 
 #[test]
@@ -74,23 +91,48 @@ fn fields_are_spelled_and_read(rt: HostRuntime) -> Result<(), Fail> {
     Ok(())
 }
 
+/// Bytes whose first field is refused.
+struct RefusedField {
+    bytes: &'static [u8],
+    refusal: WireRefusal,
+}
+
+static REFUSED: [RefusedField; 7] = [
+    RefusedField {
+        bytes: b"\x0b",
+        refusal: WireRefusal::BadWireType { at: 0, kind: 3 },
+    },
+    RefusedField {
+        bytes: b"\x03",
+        refusal: WireRefusal::BadWireType { at: 0, kind: 3 },
+    },
+    RefusedField {
+        bytes: b"\x00\x01",
+        refusal: WireRefusal::ZeroField { at: 0 },
+    },
+    RefusedField {
+        bytes: b"\x00",
+        refusal: WireRefusal::ZeroField { at: 0 },
+    },
+    RefusedField {
+        bytes: b"\x12\x02\x61",
+        refusal: WireRefusal::Cut { at: 0 },
+    },
+    RefusedField {
+        bytes: b"\x80\x80\x80\x80\x10\x01",
+        refusal: WireRefusal::LongVarint { at: 0 },
+    },
+    RefusedField {
+        bytes: b"\x0d\x01\x02\x03",
+        refusal: WireRefusal::Cut { at: 0 },
+    },
+];
+
 #[test]
 fn fields_are_refused(rt: HostRuntime) {
-    let cases: [(&[u8], WireRefusal); 7] = [
-        (b"\x0b", WireRefusal::BadWireType { at: 0, kind: 3 }),
-        (b"\x03", WireRefusal::BadWireType { at: 0, kind: 3 }),
-        (b"\x00\x01", WireRefusal::ZeroField { at: 0 }),
-        (b"\x00", WireRefusal::ZeroField { at: 0 }),
-        (b"\x12\x02\x61", WireRefusal::Cut { at: 0 }),
-        (
-            b"\x80\x80\x80\x80\x10\x01",
-            WireRefusal::LongVarint { at: 0 },
-        ),
-        (b"\x0d\x01\x02\x03", WireRefusal::Cut { at: 0 }),
-    ];
-    for (bytes, refusal) in cases {
-        let mut fields = Fields::new(bytes);
-        assert_eq!(rt; fields.next_field(), Some(Err(refusal)));
+    for case in &REFUSED {
+        let mut fields = Fields::new(case.bytes);
+        assert_eq!(rt; fields.next_field(), Some(Err(case.refusal)));
         assert_eq!(rt; fields.next_field(), None);
     }
 }
