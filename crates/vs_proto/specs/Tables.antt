@@ -1,8 +1,8 @@
 -- The messages: a slot for each field, by its number.
-use Rattle.std.specs.Prelude.{Bool, false, not, ◌||◌, List, [], ◌∷◌, ◌++◌, length, None, pos}
+use Rattle.std.specs.Prelude.{Bool, false, not, ◌||◌, [], ◌∷◌, length, None, pos, refl}
 use Rattle.vs_proto.specs.Cells.{cells_fill}
 use Rattle.vs_proto.specs.Kinds.{text, texts, bytes, int64, uint64, enumeration, flag, sint64s}
-use Rattle.vs_proto.specs.Shapes.{Shape, Slot, slot, lens, any, one, many}
+use Rattle.vs_proto.specs.Shapes.{Shape, slot, lens, any, one, many}
 use Rattle.vs_proto.specs.declared.column.Field.{Field}
 use Rattle.vs_proto.specs.declared.column.FieldEvent.{FieldEvent}
 use Rattle.vs_proto.specs.declared.row.Row.{Row}
@@ -27,6 +27,8 @@ field strict = record {
       ∷ [];
   empty = record { name = []; kind = pos 0 };
   is_whole = any;
+  in_order = refl;
+  complete = refl;
 }
 
 unfoldable pub field_event : Bool → Shape FieldEvent
@@ -36,6 +38,8 @@ field_event strict = record {
       ∷ [];
   empty = record { table_name = []; fields = [] };
   is_whole = any;
+  in_order = refl;
+  complete = refl;
 }
 
 unfoldable pub row : Bool → Shape Row
@@ -45,6 +49,8 @@ row strict = record {
       ∷ [];
   empty = record { lengths = []; values = [] };
   is_whole = λ r. not strict || cells_fill r.lengths (length r.values);
+  in_order = refl;
+  complete = refl;
 }
 
 unfoldable pub row_change : Bool → Shape RowChange
@@ -54,6 +60,8 @@ row_change strict = record {
       ∷ [];
   empty = record { before = None; after = None };
   is_whole = any;
+  in_order = refl;
+  complete = refl;
 }
 
 unfoldable pub row_event : Bool → Shape RowEvent
@@ -63,6 +71,8 @@ row_event strict = record {
       ∷ [];
   empty = record { table_name = []; row_changes = [] };
   is_whole = any;
+  in_order = refl;
+  complete = refl;
 }
 
 unfoldable pub table_key : Bool → Shape TableKey
@@ -72,6 +82,8 @@ table_key strict = record {
       ∷ [];
   empty = record { table_name = []; key = None };
   is_whole = any;
+  in_order = refl;
+  complete = refl;
 }
 
 unfoldable pub shard_gtid : Bool → Shape ShardGtid
@@ -83,6 +95,8 @@ shard_gtid strict = record {
       ∷ [];
   empty = record { keyspace = []; shard = []; gtid = []; table_p_ks = [] };
   is_whole = any;
+  in_order = refl;
+  complete = refl;
 }
 
 unfoldable pub vgtid : Bool → Shape VGtid
@@ -91,6 +105,8 @@ vgtid strict = record {
       ∷ [];
   empty = record { shard_gtids = [] };
   is_whole = any;
+  in_order = refl;
+  complete = refl;
 }
 
 unfoldable pub keyspace_shard : Bool → Shape KeyspaceShard
@@ -100,57 +116,43 @@ keyspace_shard strict = record {
       ∷ [];
   empty = record { keyspace = []; shard = [] };
   is_whole = any;
+  in_order = refl;
+  complete = refl;
 }
-
-unfoldable pub journal_head : Bool → List (Slot Journal)
-journal_head strict =
-    slot 1 int64 (lens (λ m. m.id) (λ m x. record m { id = x }))
-    ∷ slot 2 enumeration (lens (λ m. m.migration_type) (λ m x. record m { migration_type = x }))
-    ∷ slot 3 (texts strict) (lens (λ m. m.tables) (λ m x. record m { tables = x }))
-    ∷ []
-
-unfoldable pub journal_lists : Bool → List (Slot Journal)
-journal_lists strict =
-    slot 4 (text strict) (lens (λ m. m.local_position) (λ m x. record m { local_position = x }))
-    ∷ slot 5 (many (shard_gtid strict)) (lens (λ m. m.shard_gtids) (λ m x. record m { shard_gtids = x }))
-    ∷ slot 6 (many (keyspace_shard strict)) (lens (λ m. m.participants) (λ m x. record m { participants = x }))
-    ∷ []
 
 unfoldable pub journal : Bool → Shape Journal
 journal strict = record {
-  slots = journal_head strict ++ journal_lists strict;
+  slots = slot 1 int64 (lens (λ m. m.id) (λ m x. record m { id = x }))
+      ∷ slot 2 enumeration (lens (λ m. m.migration_type) (λ m x. record m { migration_type = x }))
+      ∷ slot 3 (texts strict) (lens (λ m. m.tables) (λ m x. record m { tables = x }))
+      ∷ slot 4 (text strict) (lens (λ m. m.local_position) (λ m x. record m { local_position = x }))
+      ∷ slot 5 (many (shard_gtid strict)) (lens (λ m. m.shard_gtids) (λ m x. record m { shard_gtids = x }))
+      ∷ slot 6 (many (keyspace_shard strict)) (lens (λ m. m.participants) (λ m x. record m { participants = x }))
+      ∷ [];
   empty = record { id = pos 0; migration_type = pos 0; tables = []; local_position = []; shard_gtids = []; participants = [] };
   is_whole = any;
+  in_order = refl;
+  complete = refl;
 }
-
-unfoldable pub event_head : Bool → List (Slot VEvent)
-event_head strict =
-    slot 1 enumeration (lens (λ m. m.kind) (λ m x. record m { kind = x }))
-    ∷ slot 2 int64 (lens (λ m. m.timestamp) (λ m x. record m { timestamp = x }))
-    ∷ slot 3 (text strict) (lens (λ m. m.gtid) (λ m x. record m { gtid = x }))
-    ∷ []
-
-unfoldable pub event_bodies : Bool → List (Slot VEvent)
-event_bodies strict =
-    slot 4 (text strict) (lens (λ m. m.statement) (λ m x. record m { statement = x }))
-    ∷ slot 5 (one (row_event strict)) (lens (λ m. m.row_event) (λ m x. record m { row_event = x }))
-    ∷ slot 6 (one (field_event strict)) (lens (λ m. m.field_event) (λ m x. record m { field_event = x }))
-    ∷ slot 7 (one (vgtid strict)) (lens (λ m. m.vgtid) (λ m x. record m { vgtid = x }))
-    ∷ slot 8 (one (journal strict)) (lens (λ m. m.journal) (λ m x. record m { journal = x }))
-    ∷ []
-
-unfoldable pub event_names : Bool → List (Slot VEvent)
-event_names strict =
-    slot 20 int64 (lens (λ m. m.current_time) (λ m x. record m { current_time = x }))
-    ∷ slot 22 (text strict) (lens (λ m. m.keyspace) (λ m x. record m { keyspace = x }))
-    ∷ slot 23 (text strict) (lens (λ m. m.shard) (λ m x. record m { shard = x }))
-    ∷ []
 
 unfoldable pub event : Bool → Shape VEvent
 event strict = record {
-  slots = event_head strict ++ (event_bodies strict ++ event_names strict);
+  slots = slot 1 enumeration (lens (λ m. m.kind) (λ m x. record m { kind = x }))
+      ∷ slot 2 int64 (lens (λ m. m.timestamp) (λ m x. record m { timestamp = x }))
+      ∷ slot 3 (text strict) (lens (λ m. m.gtid) (λ m x. record m { gtid = x }))
+      ∷ slot 4 (text strict) (lens (λ m. m.statement) (λ m x. record m { statement = x }))
+      ∷ slot 5 (one (row_event strict)) (lens (λ m. m.row_event) (λ m x. record m { row_event = x }))
+      ∷ slot 6 (one (field_event strict)) (lens (λ m. m.field_event) (λ m x. record m { field_event = x }))
+      ∷ slot 7 (one (vgtid strict)) (lens (λ m. m.vgtid) (λ m x. record m { vgtid = x }))
+      ∷ slot 8 (one (journal strict)) (lens (λ m. m.journal) (λ m x. record m { journal = x }))
+      ∷ slot 20 int64 (lens (λ m. m.current_time) (λ m x. record m { current_time = x }))
+      ∷ slot 22 (text strict) (lens (λ m. m.keyspace) (λ m x. record m { keyspace = x }))
+      ∷ slot 23 (text strict) (lens (λ m. m.shard) (λ m x. record m { shard = x }))
+      ∷ [];
   empty = record { kind = pos 0; timestamp = pos 0; gtid = []; statement = []; row_event = None; field_event = None; vgtid = None; journal = None; current_time = pos 0; keyspace = []; shard = [] };
   is_whole = any;
+  in_order = refl;
+  complete = refl;
 }
 
 unfoldable pub response : Bool → Shape VStreamResponse
@@ -159,6 +161,8 @@ response strict = record {
       ∷ [];
   empty = record { events = [] };
   is_whole = any;
+  in_order = refl;
+  complete = refl;
 }
 
 unfoldable pub rule : Bool → Shape Rule
@@ -168,6 +172,8 @@ rule strict = record {
       ∷ [];
   empty = record { pattern = []; filter = [] };
   is_whole = any;
+  in_order = refl;
+  complete = refl;
 }
 
 unfoldable pub filter : Bool → Shape Filter
@@ -176,6 +182,8 @@ filter strict = record {
       ∷ [];
   empty = record { rules = [] };
   is_whole = any;
+  in_order = refl;
+  complete = refl;
 }
 
 unfoldable pub flags : Bool → Shape Flags
@@ -187,6 +195,8 @@ flags strict = record {
       ∷ [];
   empty = record { max_skew = 0; heartbeat_interval = 0; stop_on_reshard = false; include_journals = false };
   is_whole = any;
+  in_order = refl;
+  complete = refl;
 }
 
 unfoldable pub request : Bool → Shape VStreamRequest
@@ -197,4 +207,6 @@ request strict = record {
       ∷ [];
   empty = record { vgtid = None; filter = None; flags = None };
   is_whole = any;
+  in_order = refl;
+  complete = refl;
 }

@@ -2,10 +2,12 @@
 //! bytes, and written in one canonical spelling.
 #![tactic(auto)]
 
+mod backward;
 mod calls;
 mod cells;
 mod column;
 mod event;
+mod head;
 mod journal;
 mod laws;
 mod message;
