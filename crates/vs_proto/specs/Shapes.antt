@@ -64,8 +64,10 @@ pub record Shape (M : Type 0) : Type 0 where
   -- each slot is empty when its turn comes, and all slots together make the message
   pub complete : cleared_states slots (λ m. empty) ≡ states slots (λ m. empty)
 
-abbrev pub any : {M : Type 0} → M → Bool
-any m = true
+-- a message without a rule over the whole: what it is without fields, and its slots
+abbrev pub plain : {M : Type 0} (empty : M) (slots : List (Slot M)) → ascend 0 slots ≡ true →
+    cleared_states slots (λ m. empty) ≡ states slots (λ m. empty) → Shape M
+plain empty slots in_order complete = record { slots = slots; empty = empty; is_whole = λ m. true; in_order = in_order; complete = complete }
 
 -- ---- the one canonical spelling: ascending numbers, no defaults
 

@@ -51,8 +51,7 @@ impl Message for Field {
 
     fn put(&self, out: &mut Backward) -> Result<(), OutOfMemory> {
         put_enum(out, 2, &self.kind)?;
-        put_text(out, 1, &self.name)?;
-        Ok(())
+        put_text(out, 1, &self.name)
     }
 }
 
@@ -81,7 +80,6 @@ impl Message for FieldEvent {
 
     fn put(&self, out: &mut Backward) -> Result<(), OutOfMemory> {
         put_more(out, 2, &self.fields)?;
-        put_text(out, 1, &self.table_name)?;
-        Ok(())
+        put_text(out, 1, &self.table_name)
     }
 }

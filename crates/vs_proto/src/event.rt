@@ -90,8 +90,7 @@ impl Message for VEvent {
         put_text(out, 4, &self.statement)?;
         put_text(out, 3, &self.gtid)?;
         put_i64(out, 2, &self.timestamp)?;
-        put_enum(out, 1, &self.kind)?;
-        Ok(())
+        put_enum(out, 1, &self.kind)
     }
 }
 
@@ -117,7 +116,6 @@ impl Message for VStreamResponse {
     }
 
     fn put(&self, out: &mut Backward) -> Result<(), OutOfMemory> {
-        put_more(out, 1, &self.events)?;
-        Ok(())
+        put_more(out, 1, &self.events)
     }
 }

@@ -56,8 +56,7 @@ impl Message for KeyspaceShard {
 
     fn put(&self, out: &mut Backward) -> Result<(), OutOfMemory> {
         put_text(out, 2, &self.shard)?;
-        put_text(out, 1, &self.keyspace)?;
-        Ok(())
+        put_text(out, 1, &self.keyspace)
     }
 }
 
@@ -98,7 +97,6 @@ impl Message for Journal {
         put_text(out, 4, &self.local_position)?;
         put_texts(out, 3, &self.tables)?;
         put_enum(out, 2, &self.migration_type)?;
-        put_i64(out, 1, &self.id)?;
-        Ok(())
+        put_i64(out, 1, &self.id)
     }
 }

@@ -68,8 +68,7 @@ impl Message for Rule {
 
     fn put(&self, out: &mut Backward) -> Result<(), OutOfMemory> {
         put_text(out, 2, &self.filter)?;
-        put_text(out, 1, &self.pattern)?;
-        Ok(())
+        put_text(out, 1, &self.pattern)
     }
 }
 
@@ -95,8 +94,7 @@ impl Message for Filter {
     }
 
     fn put(&self, out: &mut Backward) -> Result<(), OutOfMemory> {
-        put_more(out, 1, &self.rules)?;
-        Ok(())
+        put_more(out, 1, &self.rules)
     }
 }
 
@@ -131,8 +129,7 @@ impl Message for Flags {
         put_flag(out, 4, &self.include_journals)?;
         put_flag(out, 3, &self.stop_on_reshard)?;
         put_u64(out, 2, &self.heartbeat_interval)?;
-        put_u64(out, 1, &self.max_skew)?;
-        Ok(())
+        put_u64(out, 1, &self.max_skew)
     }
 }
 
@@ -164,7 +161,6 @@ impl Message for VStreamRequest {
     fn put(&self, out: &mut Backward) -> Result<(), OutOfMemory> {
         put_one(out, 3, &self.flags)?;
         put_one(out, 2, &self.filter)?;
-        put_one(out, 1, &self.vgtid)?;
-        Ok(())
+        put_one(out, 1, &self.vgtid)
     }
 }

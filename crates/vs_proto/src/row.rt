@@ -59,8 +59,7 @@ impl Message for Row {
 
     fn put(&self, out: &mut Backward) -> Result<(), OutOfMemory> {
         put_text(out, 2, &self.values)?;
-        put_sint64s(out, 1, &self.lengths)?;
-        Ok(())
+        put_sint64s(out, 1, &self.lengths)
     }
 }
 
@@ -89,8 +88,7 @@ impl Message for RowChange {
 
     fn put(&self, out: &mut Backward) -> Result<(), OutOfMemory> {
         put_one(out, 2, &self.after)?;
-        put_one(out, 1, &self.before)?;
-        Ok(())
+        put_one(out, 1, &self.before)
     }
 }
 
@@ -119,7 +117,6 @@ impl Message for RowEvent {
 
     fn put(&self, out: &mut Backward) -> Result<(), OutOfMemory> {
         put_more(out, 2, &self.row_changes)?;
-        put_text(out, 1, &self.table_name)?;
-        Ok(())
+        put_text(out, 1, &self.table_name)
     }
 }

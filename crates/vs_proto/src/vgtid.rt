@@ -59,8 +59,7 @@ impl Message for TableKey {
 
     fn put(&self, out: &mut Backward) -> Result<(), OutOfMemory> {
         put_one(out, 2, &self.key)?;
-        put_text(out, 1, &self.table_name)?;
-        Ok(())
+        put_text(out, 1, &self.table_name)
     }
 }
 
@@ -95,8 +94,7 @@ impl Message for ShardGtid {
         put_more(out, 4, &self.table_p_ks)?;
         put_text(out, 3, &self.gtid)?;
         put_text(out, 2, &self.shard)?;
-        put_text(out, 1, &self.keyspace)?;
-        Ok(())
+        put_text(out, 1, &self.keyspace)
     }
 }
 
@@ -122,7 +120,6 @@ impl Message for VGtid {
     }
 
     fn put(&self, out: &mut Backward) -> Result<(), OutOfMemory> {
-        put_more(out, 1, &self.shard_gtids)?;
-        Ok(())
+        put_more(out, 1, &self.shard_gtids)
     }
 }
