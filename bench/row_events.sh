@@ -5,7 +5,7 @@
 set -eu
 . "$(dirname "$0")/scratch.sh"
 
-run_scratch row_events "vs_base vs_proto" vs_base vs_wire vs_proto <<'PROGRAM'
+run_scratch row_events "vs_base vs_proto" vs_base vs_wire vs_frame vs_proto <<'PROGRAM'
 //! Times the reading and writing of row events.
 #![tactic(auto)]
 

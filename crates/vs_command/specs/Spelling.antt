@@ -12,6 +12,7 @@ use Rattle.vs_gtid.specs.Text.{position_text}
 use Rattle.vs_frame.specs.Frames.{framed}
 use Rattle.vs_proto.specs.Shapes.{spelling}
 use Rattle.vs_proto.specs.Tables.{response}
+use Rattle.vs_proto.specs.declared.event_kind.TheConstants.{BEGIN, COMMIT, DDL, OTHER, VGTID}
 use Rattle.vs_proto.specs.declared.event.VEvent.{VEvent}
 use Rattle.vs_proto.specs.declared.event.VStreamResponse.{VStreamResponse}
 use Rattle.vs_proto.specs.declared.row.Row.{Row}
@@ -69,13 +70,13 @@ plain_event s time kind = record {
   shard = s.shard;
 }
 
--- the event of what is said, by the numbers of the kinds of events in `binlogdata.proto`
+-- the event of what is said
 abbrev pub event_of : ShardName → ℕ → Said → VEvent
-event_of s time Begins = plain_event s time (pos 2)
-event_of s time Commits = plain_event s time (pos 3)
-event_of s time (Statement text) = record (plain_event s time (pos 5)) { statement = text }
-event_of s time OtherStatement = plain_event s time (pos 11)
-event_of s time (VectorAfter v) = record (plain_event s time (pos 15)) { vgtid = Some (vgtid_of v) }
+event_of s time Begins = plain_event s time BEGIN
+event_of s time Commits = plain_event s time COMMIT
+event_of s time (Statement text) = record (plain_event s time DDL) { statement = text }
+event_of s time OtherStatement = plain_event s time OTHER
+event_of s time (VectorAfter v) = record (plain_event s time VGTID) { vgtid = Some (vgtid_of v) }
 
 -- the events of an entry's frame, of the kinds that are built: the vector after it comes before the event that ends it
 abbrev pub events_of : Work → Vector → Option (List Said)

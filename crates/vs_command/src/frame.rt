@@ -18,18 +18,7 @@ use vs_base::{List, OutOfMemory, ShardName, Text};
 use vs_frame::{HEADER, LIMIT, put_frame};
 use vs_gtid::GtidSet;
 use vs_journal::{Entry, Work};
-use vs_proto::{ShardGtid, VEvent, VGtid, VStreamResponse, write_response};
-
-/// The kinds of events, as `binlogdata.proto` numbers them.
-const BEGIN_EVENT: i32 = 2;
-
-const COMMIT_EVENT: i32 = 3;
-
-const DDL_EVENT: i32 = 5;
-
-const OTHER_EVENT: i32 = 11;
-
-const VGTID_EVENT: i32 = 15;
+use vs_proto::{ShardGtid, VEvent, VGtid, VStreamResponse, event_kind, write_response};
 
 /// Room for the text of a position of one interval, so that it need not grow.
 const SHORT_POSITION: usize = 96;
@@ -83,7 +72,7 @@ fn vector_event(
     ensures { IfOk result (λ e. e ≡ event_of name.now time (VectorAfter (vector_at name.now position.now))) }
 {
     let vgtid = Some(vgtid_of(alloc, name, position)?);
-    let event = plain_event(alloc, name, time, VGTID_EVENT)?;
+    let event = plain_event(alloc, name, time, event_kind::VGTID)?;
     Ok(VEvent { vgtid, ..event })
 }
 
@@ -97,7 +86,7 @@ fn statement_event(
     ensures { IfOk result (λ e. e ≡ event_of name.now time (Statement text.now)) }
 {
     let statement = text.copy(alloc)?;
-    let event = plain_event(alloc, name, time, DDL_EVENT)?;
+    let event = plain_event(alloc, name, time, event_kind::DDL)?;
     Ok(VEvent { statement, ..event })
 }
 
@@ -115,9 +104,9 @@ fn entry_events(
     let mut events = Vec::new(alloc);
     match &entry.work {
         Work::Rows(_) => {
-            events.push(plain_event(alloc, name, time, BEGIN_EVENT)?)?;
+            events.push(plain_event(alloc, name, time, event_kind::BEGIN)?)?;
             events.push(vector_event(alloc, name, time, position)?)?;
-            events.push(plain_event(alloc, name, time, COMMIT_EVENT)?)?;
+            events.push(plain_event(alloc, name, time, event_kind::COMMIT)?)?;
         }
         Work::Ddl(text) => {
             events.push(vector_event(alloc, name, time, position)?)?;
@@ -125,7 +114,7 @@ fn entry_events(
         }
         Work::Other => {
             events.push(vector_event(alloc, name, time, position)?)?;
-            events.push(plain_event(alloc, name, time, OTHER_EVENT)?)?;
+            events.push(plain_event(alloc, name, time, event_kind::OTHER)?)?;
         }
         Work::Journal(_) => unreachable!(),
     }

@@ -8,13 +8,13 @@ use Rattle.vs_proto.specs.declared.event.VEvent.{VEvent}
 use Rattle.vs_proto.specs.declared.event.VStreamResponse.{VStreamResponse}
 use Rattle.vs_proto.specs.declared.refusal.Fault.{Fault}
 use Rattle.vs_proto.specs.Shapes.{spelling, read}
-use Rattle.vs_proto.specs.Tables.{response, event, event_head, event_bodies, event_names, row_event, field_event, vgtid, journal, row_change, field, shard_gtid, journal_head, journal_lists, row, table_key, keyspace_shard}
+use Rattle.vs_proto.specs.Tables.{response, event, row_event, field_event, vgtid, journal, row_change, field, shard_gtid, row, table_key, keyspace_shard}
 use Rattle.vs_proto.specs.Frames.{events_bytes, message_bytes, frame_bytes, frames_bytes, IsSpelled, IsFrame}
 use Rattle.vs_proto.proofs.MessageLaws.{response_again}
 
 -- read without the rules on texts and rows, the spelling is the same
 same_spelling : (m : VStreamResponse) → spelling (response true) m ≡ spelling (response false) m
-unfolding response spelling event event_head event_bodies event_names row_event field_event vgtid journal row_change field shard_gtid journal_head journal_lists row table_key keyspace_shard
+unfolding response spelling event row_event field_event vgtid journal row_change field shard_gtid row table_key keyspace_shard
 same_spelling m = refl
 
 abbrev events_of : Result VStreamResponse (ℕ × Fault) → List VEvent

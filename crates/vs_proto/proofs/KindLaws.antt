@@ -13,8 +13,7 @@ use Rattle.vs_wire.specs.Fields.{number, sized, IsValue}
 use Rattle.vs_wire.proofs.VarintLemmas.{varint_in-varint, varint-last, varint-more}
 use Rattle.vs_proto.specs.declared.refusal.Fault.TheVariants.{NotUtf8}
 use Rattle.vs_proto.specs.Kinds.{is_text, if_any, if_some, text, bytes, texts, uint64, int64, enumeration, flag, sint64s, numeric, fits_signed, from_flag, zigzag, unzigzag, numbers_in, packed_bytes, with_numbers, take_texts, take_number}
-use Rattle.vs_proto.specs.Shapes.{Shape, fits, one, many, inside, take_more, if_set, all_set}
-use Rattle.vs_proto.specs.Frames.{IsReadAgain}
+use Rattle.vs_proto.specs.Shapes.{Shape, fits, one, many, inside, take_more, if_set, all_set, IsReadAgain}
 use Rattle.vs_proto.proofs.PackedLemmas.{numbers_in-next, numbers_in-end}
 use Rattle.vs_proto.proofs.ShapeLaws.{Each, IsRanged, KindLaw, take_all}
 

@@ -1,5 +1,7 @@
 -- What is spelled is read again, slot by slot.
-use Rattle.std.proofs.Common.{◌≡◌, ℕ, ◌+◌, ◌<◌, ◌^◌, Bool, true, false, ◌&&◌, if◌then◌else◌, List, [], ◌∷◌, ◌++◌, append_assoc, append-nil, length, length-append, All, None, Result, Ok, Err, refl, ap, sym, ◌∙◌, arith}
+use Rattle.std.proofs.Common.{◌≡◌, ℕ, ◌+◌, ◌<◌, ◌^◌, ◌==◌, nat_lt, Bool, true, false, ◌&&◌, if◌then◌else◌, List, [], ◌∷◌, ◌++◌, append_assoc, append-nil, length, length-append, All, None, Result, Ok, Err, refl, ap, sym, ◌∙◌, arith}
+use Rattle.std.proofs.lemmas.Bool.{ltb-true}
+use Rattle.std.proofs.lemmas.Bool.Decides.{nat_tests}
 use Rattle.std.proofs.lemmas.List.Elements.{All-nil, All-cons}
 use Rattle.vs_wire.specs.Varint.{◌>>=◌}
 use Rattle.vs_wire.specs.Fields.{Value, number, fixed64, sized, fixed32, field_bytes, IsValue, IsField, spelled, placed, then_from, fields_of}
@@ -9,8 +11,7 @@ use Rattle.vs_wire.specs.declared.refusal.WireRefusal.TheVariants.{Cut}
 use Rattle.vs_proto.specs.declared.refusal.Fault.{Fault}
 use Rattle.vs_proto.specs.declared.refusal.Fault.TheVariants.{Wire}
 use Rattle.vs_proto.specs.Kinds.{Kind}
-use Rattle.vs_proto.specs.Shapes.{Lens, Slot, Shape, slot, values_bytes, slots_bytes, spelling, slots_fit, fits, take_field, placed_at, ended, take_fields, read_walk, read}
-use Rattle.vs_proto.specs.Frames.{IsReadAgain}
+use Rattle.vs_proto.specs.Shapes.{Lens, Slot, Shape, slot, ascend, cleared_states, states, values_bytes, slots_bytes, spelling, slots_fit, fits, take_field, placed_at, ended, take_fields, read_walk, read, IsReadAgain}
 use Rattle.vs_proto.proofs.SpellingLemmas.{sized_field-len}
 
 -- ---- what a kind keeps
@@ -36,56 +37,106 @@ pub record KindLaw {A : Type 0} (k : Kind A) : Type 0 where
 
 -- ---- what a slot keeps
 
-pub record SlotLaw {M : Type 0} (slots : List (Slot M)) (s : Slot M) : Type 0 where
-  pub low : 0 < s.field
-  pub high : s.field < 2 ^ 29
-  pub found : (m : M) (v : Value) → take_field slots m s.field v ≡ s.taken m v
+-- What spells this part of a message is taken as an equal part, on top of a message that has the default there.
+pub record SlotLaw {M : Type 0} (s : Slot M) : Type 0 where
   pub reads : (m start : M) → s.fits m ≡ true → s.cleared start ≡ start → Each IsValue (s.spelled m) →
       take_all s.taken start (s.spelled m) ≡ Ok (s.copied m start)
   pub ranged : (m : M) → s.fits m ≡ true → Each IsRanged (s.spelled m)
 
-pub record IsLens {M A : Type 0} (l : Lens M A) : Type 0 where
-  pub get_put : (m : M) (a : A) → l.get (l.put m a) ≡ a
-  pub put_put : (m : M) (a b : A) → l.put (l.put m a) b ≡ l.put m b
-  pub put_get : (m : M) → l.put m (l.get m) ≡ m
+-- what is there after a was put, after b was put over it, and after what was there was put again
+abbrev pub after_puts : {M A : Type 0} → Lens M A → M → A → A → A × (M × M)
+after_puts l m a b = (l.get (l.put m a), (l.put (l.put m a) b, l.put m (l.get m)))
+
+abbrev pub last_put : {M A : Type 0} → Lens M A → M → A → A → A × (M × M)
+last_put l m a b = (a, (l.put m b, m))
+
+-- what is there is what was put last
+abbrev pub IsLens : {M A : Type 0} → Lens M A → Type 0
+IsLens l = after_puts l ≡ last_put l
+
+get_put : {M A : Type 0} (l : Lens M A) → IsLens l → (m : M) (a : A) → l.get (l.put m a) ≡ a
+get_put l is m a = ap (λ f. (f m a a).0) is
+
+put_put : {M A : Type 0} (l : Lens M A) → IsLens l → (m : M) (a b : A) → l.put (l.put m a) b ≡ l.put m b
+put_put l is m a b = ap (λ f. (f m a b).1.0) is
+
+put_get : {M A : Type 0} (l : Lens M A) → IsLens l → (m : M) → l.put m (l.get m) ≡ m
+put_get l is m = ap (λ f. (f m (l.get m) (l.get m)).1.1) is
 
 put_twice : {M A : Type 0} (l : Lens M A) → IsLens l → (m : M) (a : A) (r : Result A Fault) →
     (r >>= λ c. Ok (l.put (l.put m a) c)) ≡ (r >>= λ c. Ok (l.put m c))
-put_twice l is m a (Ok c) = ap Ok (is.put_put m a c)
+put_twice l is m a (Ok c) = ap Ok (put_put l is m a c)
 put_twice l is m a (Err fault) = refl
 
 through : {M A : Type 0} (n : ℕ) (k : Kind A) (l : Lens M A) → IsLens l → (m : M) (vs : List Value) →
     take_all (slot n k l).taken m vs ≡ (take_all k.taken (l.get m) vs >>= λ a. Ok (l.put m a))
-through n k l is m [] = ap Ok (sym (is.put_get m))
+through n k l is m [] = ap Ok (sym (put_get l is m))
 through n k l is m (v ∷ vs) =
     elim (k.taken (l.get m) v) as (λ r. ((r >>= λ a. Ok (l.put m a)) >>= λ m'. take_all (slot n k l).taken m' vs)
     ≡ ((r >>= λ a. take_all k.taken a vs) >>= λ a. Ok (l.put m a))) [
       | Ok a ↦ through n k l is (l.put m a) vs
-          ∙ ap (λ b. take_all k.taken b vs >>= λ c. Ok (l.put (l.put m a) c)) (is.get_put m a)
+          ∙ ap (λ b. take_all k.taken b vs >>= λ c. Ok (l.put (l.put m a) c)) (get_put l is m a)
           ∙ put_twice l is m a (take_all k.taken a vs)
       | Err fault ↦ refl
     ]
 
-pub slot_law : {M A : Type 0} (slots : List (Slot M)) (n : ℕ) (k : Kind A) (l : Lens M A) → KindLaw k → IsLens l → 0 < n → n < 2 ^ 29 →
-    ((m : M) (v : Value) → take_field slots m n v ≡ (slot n k l).taken m v) → SlotLaw slots (slot n k l)
-slot_law slots n k l law is low high found = record {
-  low = low;
-  high = high;
-  found = found;
+pub kept : {M A : Type 0} {n : ℕ} {k : Kind A} {l : Lens M A} → KindLaw k → IsLens l → SlotLaw (slot n k l)
+kept {n = n} {k = k} {l = l} law is = record {
   reads = λ m start fit clear small.
-      let start_empty : l.get start ≡ k.empty = ap l.get (sym clear) ∙ is.get_put start k.empty in
+      let start_empty : l.get start ≡ k.empty = ap l.get (sym clear) ∙ get_put l is start k.empty in
       through n k l is start (k.spelled (l.get m))
       ∙ ap (λ a. take_all k.taken a (k.spelled (l.get m)) >>= λ b. Ok (l.put start b)) start_empty
       ∙ ap (λ r. r >>= λ b. Ok (l.put start b)) (law.reads (l.get m) fit small);
   ranged = λ m fit. law.ranged (l.get m) fit;
 }
 
--- ---- what a shape keeps: each slot is found by its number and is empty when its turn comes, and all slots make the message
+abbrev pub SlotsKeep : {M : Type 0} → List (Slot M) → Type 0
+SlotsKeep [] = Unit {0}
+SlotsKeep (s ∷ ss) = SlotLaw s × SlotsKeep ss
 
-abbrev pub SlotsKeep : {M : Type 0} → List (Slot M) → List (Slot M) → (M → M) → Type 0
-SlotsKeep {M} slots [] state = (m : M) → state m ≡ m
-SlotsKeep {M} slots (s ∷ ss) state =
-    SlotLaw slots s × ((m : M) → s.cleared (state m) ≡ state m) × SlotsKeep slots ss (λ m. s.copied m (state m))
+-- ---- each slot is found by its number
+
+-- from the slots whose numbers are above `low` on, numbers above it are looked up
+abbrev LooksUp : {M : Type 0} → List (Slot M) → List (Slot M) → ℕ → Type 0
+LooksUp {M} slots ss low = (n : ℕ) → low < n → (m : M) (v : Value) → take_field slots m n v ≡ take_field ss m n v
+
+and_first : (a b : Bool) → (a && b) ≡ true → a ≡ true
+and_first true b e = refl
+and_first false b e = cc
+
+and_second : (a b : Bool) → (a && b) ≡ true → b ≡ true
+and_second true b e = e
+and_second false b e = cc
+
+-- the first slot's number is in range, and the others' are above it
+above : {M : Type 0} (low : ℕ) (s : Slot M) (ss : List (Slot M)) → ascend low (s ∷ ss) ≡ true →
+    (low < s.field) × ((s.field < 2 ^ 29) × (ascend s.field ss ≡ true))
+above low s ss e =
+    let rest = and_second (nat_lt low s.field) (nat_lt s.field (2 ^ 29) && ascend s.field ss) e in (
+      ltb-true low s.field (and_first (nat_lt low s.field) (nat_lt s.field (2 ^ 29) && ascend s.field ss) e),
+      (
+        ltb-true s.field (2 ^ 29) (and_first (nat_lt s.field (2 ^ 29)) (ascend s.field ss) rest),
+        and_second (nat_lt s.field (2 ^ 29)) (ascend s.field ss) rest,
+      ),
+    )
+
+same_number : (n : ℕ) → (n == n) ≡ true
+same_number n = grind (arith, nat_tests)
+
+greater_number : (low n : ℕ) → low < n → (n == low) ≡ false
+greater_number low n h = grind (arith, nat_tests)
+
+found : {M : Type 0} (slots : List (Slot M)) (s : Slot M) (ss : List (Slot M)) (low : ℕ) → LooksUp slots (s ∷ ss) low → low < s.field →
+    (m : M) (v : Value) → take_field slots m s.field v ≡ s.taken m v
+found slots s ss low looks h m v =
+    looks s.field h m v ∙ ap (λ t. if t then s.taken m v else take_field ss m s.field v) (same_number s.field)
+
+looks_on : {M : Type 0} (slots : List (Slot M)) (s : Slot M) (ss : List (Slot M)) (low : ℕ) → LooksUp slots (s ∷ ss) low → low < s.field →
+    LooksUp slots ss s.field
+looks_on slots s ss low looks h n over m v =
+    looks n (omega arith) m v ∙ ap (λ t. if t then s.taken m v else take_field ss m n v) (greater_number s.field n over)
+
+-- ---- the spelling as fields
 
 -- the fields of the spelling
 abbrev numbered : ℕ → List Value → List (ℕ × Value)
@@ -157,36 +208,42 @@ Each-append : {A : Type 0} (P : A → Type 0) (xs ys : List A) → Each P xs →
 Each-append P [] ys p q = q
 Each-append P (x ∷ xs) ys p q = (p.0, Each-append P xs ys p.1 q)
 
-and_first : (a b : Bool) → (a && b) ≡ true → a ≡ true
-and_first true b e = refl
-and_first false b e = cc
+-- of a list of states, the first, and the others
+abbrev first_of : {M : Type 0} → List (M → M) → M → M
+first_of [] m = m
+first_of (f ∷ fs) m = f m
 
-and_second : (a b : Bool) → (a && b) ≡ true → b ≡ true
-and_second true b e = e
-and_second false b e = cc
+abbrev rest_of : {M : Type 0} → List (M → M) → List (M → M)
+rest_of [] = []
+rest_of (f ∷ fs) = fs
 
-slots_small : {M : Type 0} (slots ss : List (Slot M)) (state : M → M) (m : M) → SlotsKeep slots ss state → slots_fit ss m ≡ true →
+slots_small : {M : Type 0} (ss : List (Slot M)) (low : ℕ) (m : M) → SlotsKeep ss → ascend low ss ≡ true → slots_fit ss m ≡ true →
     length (slots_bytes ss m) < 2 ^ 64 → Each IsField (slots_fields ss m)
-slots_small slots [] state m keep fit h = tt
-slots_small slots (s ∷ ss) state m keep fit h =
+slots_small [] low m keep order fit h = tt
+slots_small (s ∷ ss) low m keep order fit h =
     let size = length-append (values_bytes s.field (s.spelled m)) (slots_bytes ss m) in
     let first = and_first (s.fits m) (slots_fit ss m) fit in
     let small = values_small s.field (s.spelled m) (keep.0.ranged m first) (omega arith) in
+    let range = above low s ss order in
     Each-append IsField (numbered s.field (s.spelled m)) (slots_fields ss m)
-    (numbered_fields s.field (s.spelled m) keep.0.low keep.0.high small)
-    (slots_small slots ss (λ x. s.copied x (state x)) m keep.2 (and_second (s.fits m) (slots_fit ss m) fit) (omega arith))
+    (numbered_fields s.field (s.spelled m) (omega arith) range.1.0 small)
+    (slots_small ss s.field m keep.1 range.1.1 (and_second (s.fits m) (slots_fit ss m) fit) (omega arith))
 
-slots_read : {M : Type 0} (slots ss : List (Slot M)) (state : M → M) (m : M) → SlotsKeep slots ss state → slots_fit ss m ≡ true →
+slots_read : {M : Type 0} (slots ss : List (Slot M)) (low : ℕ) (state : M → M) (m : M) → SlotsKeep ss → LooksUp slots ss low → ascend low ss ≡ true →
+    cleared_states ss state ≡ states ss state → slots_fit ss m ≡ true →
     length (slots_bytes ss m) < 2 ^ 64 → take_list slots (state m) (slots_fields ss m) ≡ Ok m
-slots_read slots [] state m keep fit h = ap Ok (keep m)
-slots_read slots (s ∷ ss) state m keep fit h =
+slots_read slots [] low state m keep looks order complete fit h = ap Ok (ap (λ fs. first_of fs m) complete)
+slots_read slots (s ∷ ss) low state m keep looks order complete fit h =
     let size = length-append (values_bytes s.field (s.spelled m)) (slots_bytes ss m) in
     let first = and_first (s.fits m) (slots_fit ss m) fit in
     let small = values_small s.field (s.spelled m) (keep.0.ranged m first) (omega arith) in
+    let range = above low s ss order in
     take_list-append slots (state m) (numbered s.field (s.spelled m)) (slots_fields ss m)
     ∙ ap (λ r. r >>= λ m'. take_list slots m' (slots_fields ss m))
-    (take_list-numbered slots s keep.0.found (state m) (s.spelled m) ∙ keep.0.reads m (state m) first (keep.1 m) small)
-    ∙ slots_read slots ss (λ x. s.copied x (state x)) m keep.2 (and_second (s.fits m) (slots_fit ss m) fit) (omega arith)
+    (take_list-numbered slots s (found slots s ss low looks range.0) (state m) (s.spelled m)
+    ∙ keep.0.reads m (state m) first (ap (λ fs. first_of fs m) complete) small)
+    ∙ slots_read slots ss s.field (λ x. s.copied x (state x)) m keep.1 (looks_on slots s ss low looks range.0) range.1.1 (ap (λ fs. rest_of fs) complete)
+    (and_second (s.fits m) (slots_fit ss m) fit) (omega arith)
 
 -- ---- a message is read again
 
@@ -212,13 +269,14 @@ fields_are fs is =
     ∙ ap (λ w. then_from (placed 0 fs) w) (fields_from-end (0 + length (spelled fs)) [] refl)
     ∙ ap (λ l. record { fields = l; fault = None }) (append-nil (placed 0 fs))
 
-pub shape_law : {M : Type 0} (shape : Shape M) → SlotsKeep shape.slots shape.slots (λ m. shape.empty) → IsReadAgain shape
+pub read_again : {M : Type 0} (shape : Shape M) → SlotsKeep shape.slots → IsReadAgain shape
 unfolding spelling fits
-shape_law shape keep m fit small =
+read_again shape keep m fit small =
     let fit_slots = and_first (slots_fit shape.slots m) (shape.is_whole m) fit in
     let whole = and_second (slots_fit shape.slots m) (shape.is_whole m) fit in
-    let fields = slots_small shape.slots shape.slots (λ x. shape.empty) m keep fit_slots small in
+    let fields = slots_small shape.slots 0 m keep shape.in_order fit_slots small in
     ap (λ b. read shape b) (sym (spelled-slots shape.slots m))
     ∙ ap (λ w. read_walk shape shape.empty w) (fields_are (slots_fields shape.slots m) fields)
-    ∙ placed_read shape (slots_fields shape.slots m) 0 shape.empty m (slots_read shape.slots shape.slots (λ x. shape.empty) m keep fit_slots small)
+    ∙ placed_read shape (slots_fields shape.slots m) 0 shape.empty m
+    (slots_read shape.slots shape.slots 0 (λ x. shape.empty) m keep (λ n h x v. refl) shape.in_order shape.complete fit_slots small)
     ∙ ap (λ t. if t then Ok m else Err (0, Wire (Cut 0))) whole

@@ -1,5 +1,5 @@
 -- How what a function returned answers what reading or spelling gives.
-use Rattle.std.specs.Prelude.{◌≡◌, ℕ, ◌-◌, ◌^◌, min, true, if◌then◌else◌, List, Result, Ok, Err}
+use Rattle.std.specs.Prelude.{◌≡◌, ℕ, true, if◌then◌else◌, List, Result, Ok, Err}
 use Rattle.vs_wire.specs.declared.refusal.WireRefusal.{WireRefusal}
 use Rattle.vs_wire.specs.declared.refusal.WireRefusal.TheVariants.{Cut, LongVarint, BadWireType, ZeroField}
 use Rattle.vs_proto.specs.Kinds.{is_text}
@@ -51,12 +51,6 @@ place_of (Cut at) = at
 place_of (LongVarint at) = at
 place_of (BadWireType at kind) = at
 place_of (ZeroField at) = at
-
--- ---- writing
-
--- a length, or the greatest usize where it is beyond
-abbrev pub capped : ℕ → ℕ
-capped n = min n (2 ^ 64 - 1)
 
 -- ---- strings
 

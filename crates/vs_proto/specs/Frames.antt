@@ -1,24 +1,17 @@
 -- Messages on the wire, each behind four bytes of its length, and frames, which are messages in a row.
-use Rattle.std.specs.Prelude.{◌≡◌, ℕ, ◌^◌, ◌<◌, Bool, true, false, List, [], ◌∷◌, ◌++◌, length, Ok}
+use Rattle.std.specs.Prelude.{◌≡◌, ℕ, ◌^◌, ◌<◌, Bool, true, false, List, [], ◌∷◌, ◌++◌, length}
 use Rattle.std.specs.List.{AllByRecursion, flat_map}
-use Rattle.std.specs.Int.{w32, to_be_bytes}
+use Rattle.vs_frame.specs.Frames.{framed}
 use Rattle.vs_proto.specs.declared.event.VEvent.{VEvent}
-use Rattle.vs_proto.specs.Shapes.{Shape, spelling, fits, read}
+use Rattle.vs_proto.specs.Shapes.{spelling, fits}
 use Rattle.vs_proto.specs.Tables.{response}
-
--- What is written is read as an equal value, where each field is in the range of its type, each text is UTF-8 where that is
--- asked, and the cells of each row fill its bytes.
-abbrev pub IsReadAgain : {M : Type 0} → Shape M → Type 0
-IsReadAgain {M} shape = (m : M) → fits shape m ≡ true → length (spelling shape m) < 2 ^ 64 → read shape (spelling shape m) ≡ Ok m
-
--- ---- frames
 
 abbrev pub events_bytes : List VEvent → List ℕ
 events_bytes events = spelling (response true) (record { events = events })
 
--- four bytes of length, the highest first, and the events
+-- the events behind their length
 abbrev pub message_bytes : List VEvent → List ℕ
-message_bytes events = to_be_bytes w32 (length (events_bytes events)) ++ events_bytes events
+message_bytes events = framed (events_bytes events)
 
 abbrev pub frame_bytes : List (List VEvent) → List ℕ
 frame_bytes messages = flat_map message_bytes messages

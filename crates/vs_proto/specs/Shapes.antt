@@ -1,5 +1,5 @@
 -- The shape of a message: a slot for each field, which is its number, its kind, and where it stands in the value.
-use Rattle.std.specs.Prelude.{ℕ, ◌==◌, if◌then◌else◌, Bool, true, ◌&&◌, List, [], ◌∷◌, ◌++◌, map, Option, Some, None, unwrap_or, Result, Ok, Err}
+use Rattle.std.specs.Prelude.{◌≡◌, ℕ, ◌<◌, ◌^◌, nat_lt, ◌==◌, if◌then◌else◌, Bool, true, ◌&&◌, List, [], ◌∷◌, ◌++◌, length, map, Option, Some, None, unwrap_or, Result, Ok, Err}
 use Rattle.std.specs.List.{list_all, flat_map}
 use Rattle.vs_wire.specs.Varint.{◌>>=◌}
 use Rattle.vs_wire.specs.declared.refusal.Flaw.{Flaw}
@@ -37,16 +37,37 @@ slot n kind part = record {
   copied = λ from m. part.put m (part.get from);
 }
 
+-- the numbers are above this one, ascend, and are below 2 ^ 29
+abbrev pub ascend : {M : Type 0} → ℕ → List (Slot M) → Bool
+ascend low [] = true
+ascend low (s ∷ ss) = nat_lt low s.field && (nat_lt s.field (2 ^ 29) && ascend s.field ss)
+
+-- A message is filled slot by slot with what another has there. These are the states on the way, each with the default put
+-- where the next slot is.
+abbrev pub cleared_states : {M : Type 0} → List (Slot M) → (M → M) → List (M → M)
+cleared_states [] state = state ∷ []
+cleared_states (s ∷ ss) state = (λ m. s.cleared (state m)) ∷ cleared_states ss (λ m. s.copied m (state m))
+
+-- The same states as they are, and at the end the other message.
+abbrev pub states : {M : Type 0} → List (Slot M) → (M → M) → List (M → M)
+states [] state = (λ m. m) ∷ []
+states (s ∷ ss) state = state ∷ states ss (λ m. s.copied m (state m))
+
 pub record Shape (M : Type 0) : Type 0 where
-  -- in ascending order of their numbers
   pub slots : List (Slot M)
   -- the message without fields
   pub empty : M
   -- a rule over the whole message, asked when all of it is read
   pub is_whole : M → Bool
+  -- the numbers of the slots ascend
+  pub in_order : ascend 0 slots ≡ true
+  -- each slot is empty when its turn comes, and all slots together make the message
+  pub complete : cleared_states slots (λ m. empty) ≡ states slots (λ m. empty)
 
-abbrev pub any : {M : Type 0} → M → Bool
-any m = true
+-- a message without a rule over the whole: what it is without fields, and its slots
+abbrev pub plain : {M : Type 0} (empty : M) (slots : List (Slot M)) → ascend 0 slots ≡ true →
+    cleared_states slots (λ m. empty) ≡ states slots (λ m. empty) → Shape M
+plain empty slots in_order complete = record { slots = slots; empty = empty; is_whole = λ m. true; in_order = in_order; complete = complete }
 
 -- ---- the one canonical spelling: ascending numbers, no defaults
 
@@ -59,6 +80,11 @@ slots_bytes slots m = flat_map (λ s. values_bytes s.field (s.spelled m)) slots
 
 unfoldable pub spelling : {M : Type 0} → Shape M → M → List ℕ
 spelling shape m = slots_bytes shape.slots m
+
+-- the spelling in front of some bytes, field by field
+abbrev pub slots_before : {M : Type 0} → List (Slot M) → M → List ℕ → List ℕ
+slots_before [] m after = after
+slots_before (s ∷ ss) m after = values_bytes s.field (s.spelled m) ++ slots_before ss m after
 
 abbrev pub slots_fit : {M : Type 0} → List (Slot M) → M → Bool
 slots_fit [] m = true
@@ -121,10 +147,6 @@ abbrev pub one_fits : {M : Type 0} → Shape M → Option M → Bool
 one_fits shape None = true
 one_fits shape (Some m) = fits shape m
 
--- a message that may be absent
-abbrev pub one : {M : Type 0} → Shape M → Kind (Option M)
-one shape = record { empty = None; spelled = if_set shape; taken = take_one shape; fits = one_fits shape }
-
 abbrev pub all_set : {M : Type 0} → Shape M → List M → List Value
 all_set shape ms = map (λ m. sized (spelling shape m)) ms
 
@@ -134,6 +156,17 @@ take_more shape old (number n) = Ok old
 take_more shape old (fixed64 b) = Ok old
 take_more shape old (fixed32 b) = Ok old
 
+-- a message that may be absent
+abbrev pub one : {M : Type 0} → Shape M → Kind (Option M)
+one shape = record { empty = None; spelled = if_set shape; taken = take_one shape; fits = one_fits shape }
+
 -- messages in a row
 abbrev pub many : {M : Type 0} → Shape M → Kind (List M)
 many shape = record { empty = []; spelled = all_set shape; taken = take_more shape; fits = list_all (fits shape) }
+
+-- ---- what is written is read again
+
+-- What is written is read as an equal value, where each field is in the range of its type, each text is UTF-8 where that is
+-- asked, and the cells of each row fill its bytes.
+abbrev pub IsReadAgain : {M : Type 0} → Shape M → Type 0
+IsReadAgain {M} shape = (m : M) → fits shape m ≡ true → length (spelling shape m) < 2 ^ 64 → read shape (spelling shape m) ≡ Ok m

@@ -1,8 +1,8 @@
 -- The messages: a slot for each field, by its number.
-use Rattle.std.specs.Prelude.{Bool, false, not, ◌||◌, List, [], ◌∷◌, ◌++◌, length, None, pos}
+use Rattle.std.specs.Prelude.{Bool, false, not, ◌||◌, [], ◌∷◌, length, None, pos, refl}
 use Rattle.vs_proto.specs.Cells.{cells_fill}
 use Rattle.vs_proto.specs.Kinds.{text, texts, bytes, int64, uint64, enumeration, flag, sint64s}
-use Rattle.vs_proto.specs.Shapes.{Shape, Slot, slot, lens, any, one, many}
+use Rattle.vs_proto.specs.Shapes.{Shape, slot, lens, plain, one, many}
 use Rattle.vs_proto.specs.declared.column.Field.{Field}
 use Rattle.vs_proto.specs.declared.column.FieldEvent.{FieldEvent}
 use Rattle.vs_proto.specs.declared.row.Row.{Row}
@@ -21,22 +21,18 @@ use Rattle.vs_proto.specs.declared.request.Flags.{Flags}
 use Rattle.vs_proto.specs.declared.request.VStreamRequest.{VStreamRequest}
 
 unfoldable pub field : Bool → Shape Field
-field strict = record {
-  slots = slot 1 (text strict) (lens (λ m. m.name) (λ m x. record m { name = x }))
-      ∷ slot 2 enumeration (lens (λ m. m.kind) (λ m x. record m { kind = x }))
-      ∷ [];
-  empty = record { name = []; kind = pos 0 };
-  is_whole = any;
-}
+field strict = plain (record { name = []; kind = pos 0 }) (
+    slot 1 (text strict) (lens (λ m. m.name) (λ m x. record m { name = x }))
+    ∷ slot 2 enumeration (lens (λ m. m.kind) (λ m x. record m { kind = x }))
+    ∷ []
+) refl refl
 
 unfoldable pub field_event : Bool → Shape FieldEvent
-field_event strict = record {
-  slots = slot 1 (text strict) (lens (λ m. m.table_name) (λ m x. record m { table_name = x }))
-      ∷ slot 2 (many (field strict)) (lens (λ m. m.fields) (λ m x. record m { fields = x }))
-      ∷ [];
-  empty = record { table_name = []; fields = [] };
-  is_whole = any;
-}
+field_event strict = plain (record { table_name = []; fields = [] }) (
+    slot 1 (text strict) (lens (λ m. m.table_name) (λ m x. record m { table_name = x }))
+    ∷ slot 2 (many (field strict)) (lens (λ m. m.fields) (λ m x. record m { fields = x }))
+    ∷ []
+) refl refl
 
 unfoldable pub row : Bool → Shape Row
 row strict = record {
@@ -45,156 +41,112 @@ row strict = record {
       ∷ [];
   empty = record { lengths = []; values = [] };
   is_whole = λ r. not strict || cells_fill r.lengths (length r.values);
+  in_order = refl;
+  complete = refl;
 }
 
 unfoldable pub row_change : Bool → Shape RowChange
-row_change strict = record {
-  slots = slot 1 (one (row strict)) (lens (λ m. m.before) (λ m x. record m { before = x }))
-      ∷ slot 2 (one (row strict)) (lens (λ m. m.after) (λ m x. record m { after = x }))
-      ∷ [];
-  empty = record { before = None; after = None };
-  is_whole = any;
-}
+row_change strict = plain (record { before = None; after = None }) (
+    slot 1 (one (row strict)) (lens (λ m. m.before) (λ m x. record m { before = x }))
+    ∷ slot 2 (one (row strict)) (lens (λ m. m.after) (λ m x. record m { after = x }))
+    ∷ []
+) refl refl
 
 unfoldable pub row_event : Bool → Shape RowEvent
-row_event strict = record {
-  slots = slot 1 (text strict) (lens (λ m. m.table_name) (λ m x. record m { table_name = x }))
-      ∷ slot 2 (many (row_change strict)) (lens (λ m. m.row_changes) (λ m x. record m { row_changes = x }))
-      ∷ [];
-  empty = record { table_name = []; row_changes = [] };
-  is_whole = any;
-}
+row_event strict = plain (record { table_name = []; row_changes = [] }) (
+    slot 1 (text strict) (lens (λ m. m.table_name) (λ m x. record m { table_name = x }))
+    ∷ slot 2 (many (row_change strict)) (lens (λ m. m.row_changes) (λ m x. record m { row_changes = x }))
+    ∷ []
+) refl refl
 
 unfoldable pub table_key : Bool → Shape TableKey
-table_key strict = record {
-  slots = slot 1 (text strict) (lens (λ m. m.table_name) (λ m x. record m { table_name = x }))
-      ∷ slot 2 (one (row strict)) (lens (λ m. m.key) (λ m x. record m { key = x }))
-      ∷ [];
-  empty = record { table_name = []; key = None };
-  is_whole = any;
-}
+table_key strict = plain (record { table_name = []; key = None }) (
+    slot 1 (text strict) (lens (λ m. m.table_name) (λ m x. record m { table_name = x }))
+    ∷ slot 2 (one (row strict)) (lens (λ m. m.key) (λ m x. record m { key = x }))
+    ∷ []
+) refl refl
 
 unfoldable pub shard_gtid : Bool → Shape ShardGtid
-shard_gtid strict = record {
-  slots = slot 1 (text strict) (lens (λ m. m.keyspace) (λ m x. record m { keyspace = x }))
-      ∷ slot 2 (text strict) (lens (λ m. m.shard) (λ m x. record m { shard = x }))
-      ∷ slot 3 (text strict) (lens (λ m. m.gtid) (λ m x. record m { gtid = x }))
-      ∷ slot 4 (many (table_key strict)) (lens (λ m. m.table_p_ks) (λ m x. record m { table_p_ks = x }))
-      ∷ [];
-  empty = record { keyspace = []; shard = []; gtid = []; table_p_ks = [] };
-  is_whole = any;
-}
+shard_gtid strict = plain (record { keyspace = []; shard = []; gtid = []; table_p_ks = [] }) (
+    slot 1 (text strict) (lens (λ m. m.keyspace) (λ m x. record m { keyspace = x }))
+    ∷ slot 2 (text strict) (lens (λ m. m.shard) (λ m x. record m { shard = x }))
+    ∷ slot 3 (text strict) (lens (λ m. m.gtid) (λ m x. record m { gtid = x }))
+    ∷ slot 4 (many (table_key strict)) (lens (λ m. m.table_p_ks) (λ m x. record m { table_p_ks = x }))
+    ∷ []
+) refl refl
 
 unfoldable pub vgtid : Bool → Shape VGtid
-vgtid strict = record {
-  slots = slot 1 (many (shard_gtid strict)) (lens (λ m. m.shard_gtids) (λ m x. record m { shard_gtids = x }))
-      ∷ [];
-  empty = record { shard_gtids = [] };
-  is_whole = any;
-}
+vgtid strict = plain (record { shard_gtids = [] }) (
+    slot 1 (many (shard_gtid strict)) (lens (λ m. m.shard_gtids) (λ m x. record m { shard_gtids = x }))
+    ∷ []
+) refl refl
 
 unfoldable pub keyspace_shard : Bool → Shape KeyspaceShard
-keyspace_shard strict = record {
-  slots = slot 1 (text strict) (lens (λ m. m.keyspace) (λ m x. record m { keyspace = x }))
-      ∷ slot 2 (text strict) (lens (λ m. m.shard) (λ m x. record m { shard = x }))
-      ∷ [];
-  empty = record { keyspace = []; shard = [] };
-  is_whole = any;
-}
+keyspace_shard strict = plain (record { keyspace = []; shard = [] }) (
+    slot 1 (text strict) (lens (λ m. m.keyspace) (λ m x. record m { keyspace = x }))
+    ∷ slot 2 (text strict) (lens (λ m. m.shard) (λ m x. record m { shard = x }))
+    ∷ []
+) refl refl
 
-unfoldable pub journal_head : Bool → List (Slot Journal)
-journal_head strict =
+unfoldable pub journal : Bool → Shape Journal
+journal strict = plain (record { id = pos 0; migration_type = pos 0; tables = []; local_position = []; shard_gtids = []; participants = [] }) (
     slot 1 int64 (lens (λ m. m.id) (λ m x. record m { id = x }))
     ∷ slot 2 enumeration (lens (λ m. m.migration_type) (λ m x. record m { migration_type = x }))
     ∷ slot 3 (texts strict) (lens (λ m. m.tables) (λ m x. record m { tables = x }))
-    ∷ []
-
-unfoldable pub journal_lists : Bool → List (Slot Journal)
-journal_lists strict =
-    slot 4 (text strict) (lens (λ m. m.local_position) (λ m x. record m { local_position = x }))
+    ∷ slot 4 (text strict) (lens (λ m. m.local_position) (λ m x. record m { local_position = x }))
     ∷ slot 5 (many (shard_gtid strict)) (lens (λ m. m.shard_gtids) (λ m x. record m { shard_gtids = x }))
     ∷ slot 6 (many (keyspace_shard strict)) (lens (λ m. m.participants) (λ m x. record m { participants = x }))
     ∷ []
+) refl refl
 
-unfoldable pub journal : Bool → Shape Journal
-journal strict = record {
-  slots = journal_head strict ++ journal_lists strict;
-  empty = record { id = pos 0; migration_type = pos 0; tables = []; local_position = []; shard_gtids = []; participants = [] };
-  is_whole = any;
-}
-
-unfoldable pub event_head : Bool → List (Slot VEvent)
-event_head strict =
+unfoldable pub event : Bool → Shape VEvent
+event strict = plain (record { kind = pos 0; timestamp = pos 0; gtid = []; statement = []; row_event = None; field_event = None; vgtid = None; journal = None; current_time = pos 0; keyspace = []; shard = [] }) (
     slot 1 enumeration (lens (λ m. m.kind) (λ m x. record m { kind = x }))
     ∷ slot 2 int64 (lens (λ m. m.timestamp) (λ m x. record m { timestamp = x }))
     ∷ slot 3 (text strict) (lens (λ m. m.gtid) (λ m x. record m { gtid = x }))
-    ∷ []
-
-unfoldable pub event_bodies : Bool → List (Slot VEvent)
-event_bodies strict =
-    slot 4 (text strict) (lens (λ m. m.statement) (λ m x. record m { statement = x }))
+    ∷ slot 4 (text strict) (lens (λ m. m.statement) (λ m x. record m { statement = x }))
     ∷ slot 5 (one (row_event strict)) (lens (λ m. m.row_event) (λ m x. record m { row_event = x }))
     ∷ slot 6 (one (field_event strict)) (lens (λ m. m.field_event) (λ m x. record m { field_event = x }))
     ∷ slot 7 (one (vgtid strict)) (lens (λ m. m.vgtid) (λ m x. record m { vgtid = x }))
     ∷ slot 8 (one (journal strict)) (lens (λ m. m.journal) (λ m x. record m { journal = x }))
-    ∷ []
-
-unfoldable pub event_names : Bool → List (Slot VEvent)
-event_names strict =
-    slot 20 int64 (lens (λ m. m.current_time) (λ m x. record m { current_time = x }))
+    ∷ slot 20 int64 (lens (λ m. m.current_time) (λ m x. record m { current_time = x }))
     ∷ slot 22 (text strict) (lens (λ m. m.keyspace) (λ m x. record m { keyspace = x }))
     ∷ slot 23 (text strict) (lens (λ m. m.shard) (λ m x. record m { shard = x }))
     ∷ []
-
-unfoldable pub event : Bool → Shape VEvent
-event strict = record {
-  slots = event_head strict ++ (event_bodies strict ++ event_names strict);
-  empty = record { kind = pos 0; timestamp = pos 0; gtid = []; statement = []; row_event = None; field_event = None; vgtid = None; journal = None; current_time = pos 0; keyspace = []; shard = [] };
-  is_whole = any;
-}
+) refl refl
 
 unfoldable pub response : Bool → Shape VStreamResponse
-response strict = record {
-  slots = slot 1 (many (event strict)) (lens (λ m. m.events) (λ m x. record m { events = x }))
-      ∷ [];
-  empty = record { events = [] };
-  is_whole = any;
-}
+response strict = plain (record { events = [] }) (
+    slot 1 (many (event strict)) (lens (λ m. m.events) (λ m x. record m { events = x }))
+    ∷ []
+) refl refl
 
 unfoldable pub rule : Bool → Shape Rule
-rule strict = record {
-  slots = slot 1 (text strict) (lens (λ m. m.pattern) (λ m x. record m { pattern = x }))
-      ∷ slot 2 (text strict) (lens (λ m. m.filter) (λ m x. record m { filter = x }))
-      ∷ [];
-  empty = record { pattern = []; filter = [] };
-  is_whole = any;
-}
+rule strict = plain (record { pattern = []; filter = [] }) (
+    slot 1 (text strict) (lens (λ m. m.pattern) (λ m x. record m { pattern = x }))
+    ∷ slot 2 (text strict) (lens (λ m. m.filter) (λ m x. record m { filter = x }))
+    ∷ []
+) refl refl
 
 unfoldable pub filter : Bool → Shape Filter
-filter strict = record {
-  slots = slot 1 (many (rule strict)) (lens (λ m. m.rules) (λ m x. record m { rules = x }))
-      ∷ [];
-  empty = record { rules = [] };
-  is_whole = any;
-}
+filter strict = plain (record { rules = [] }) (
+    slot 1 (many (rule strict)) (lens (λ m. m.rules) (λ m x. record m { rules = x }))
+    ∷ []
+) refl refl
 
 unfoldable pub flags : Bool → Shape Flags
-flags strict = record {
-  slots = slot 1 uint64 (lens (λ m. m.max_skew) (λ m x. record m { max_skew = x }))
-      ∷ slot 2 uint64 (lens (λ m. m.heartbeat_interval) (λ m x. record m { heartbeat_interval = x }))
-      ∷ slot 3 flag (lens (λ m. m.stop_on_reshard) (λ m x. record m { stop_on_reshard = x }))
-      ∷ slot 4 flag (lens (λ m. m.include_journals) (λ m x. record m { include_journals = x }))
-      ∷ [];
-  empty = record { max_skew = 0; heartbeat_interval = 0; stop_on_reshard = false; include_journals = false };
-  is_whole = any;
-}
+flags strict = plain (record { max_skew = 0; heartbeat_interval = 0; stop_on_reshard = false; include_journals = false }) (
+    slot 1 uint64 (lens (λ m. m.max_skew) (λ m x. record m { max_skew = x }))
+    ∷ slot 2 uint64 (lens (λ m. m.heartbeat_interval) (λ m x. record m { heartbeat_interval = x }))
+    ∷ slot 3 flag (lens (λ m. m.stop_on_reshard) (λ m x. record m { stop_on_reshard = x }))
+    ∷ slot 4 flag (lens (λ m. m.include_journals) (λ m x. record m { include_journals = x }))
+    ∷ []
+) refl refl
 
 unfoldable pub request : Bool → Shape VStreamRequest
-request strict = record {
-  slots = slot 1 (one (vgtid strict)) (lens (λ m. m.vgtid) (λ m x. record m { vgtid = x }))
-      ∷ slot 2 (one (filter strict)) (lens (λ m. m.filter) (λ m x. record m { filter = x }))
-      ∷ slot 3 (one (flags strict)) (lens (λ m. m.flags) (λ m x. record m { flags = x }))
-      ∷ [];
-  empty = record { vgtid = None; filter = None; flags = None };
-  is_whole = any;
-}
+request strict = plain (record { vgtid = None; filter = None; flags = None }) (
+    slot 1 (one (vgtid strict)) (lens (λ m. m.vgtid) (λ m x. record m { vgtid = x }))
+    ∷ slot 2 (one (filter strict)) (lens (λ m. m.filter) (λ m x. record m { filter = x }))
+    ∷ slot 3 (one (flags strict)) (lens (λ m. m.flags) (λ m x. record m { flags = x }))
+    ∷ []
+) refl refl

@@ -3,9 +3,11 @@ ghost use Rattle.vs_proto.specs.Answers.{Reads};
 ghost use Rattle.vs_proto.specs.Shapes.{read, spelling};
 ghost use Rattle.vs_proto.specs.Tables.{event, journal, request, response, vgtid};
 
+use crate::backward::Backward;
 use crate::event::{VEvent, VStreamResponse};
 use crate::journal::Journal;
 use crate::message::Message;
+use crate::nested::put_message;
 use crate::reading::read_message;
 use crate::request::VStreamRequest;
 use crate::vgtid::VGtid;
@@ -56,11 +58,10 @@ fn write_message<M: Message>(
     ensures ok { OnOk result (out.new.items ≡ out.old.items ++ spelling M.shape message.now) }
     ensures err { OnErr result (out.new.items ≡ out.old.items) }
 {
-    // A vector of its own, so that want of memory leaves `out` as it was.
-    let mut spelled = Vec::with_capacity(alloc, message.len())?;
-    message.put(alloc, &mut spelled)?;
-    out.extend_from_slice(&spelled)?;
-    Ok(())
+    // Room of its own, so that want of memory leaves `out` as it was.
+    let mut spelled = Backward::new(alloc);
+    put_message(&mut spelled, message)?;
+    out.extend_from_slice(spelled.as_slice())
 }
 
 /// Appends the request of a client.

@@ -2,11 +2,12 @@ ghost use Rattle.std.specs.Prelude.{true};
 ghost use Rattle.vs_proto.specs.Tables.{field, field_event};
 
 use crate::OutOfMemory;
+use crate::backward::Backward;
 use crate::message::Message;
-use crate::nested::{more_len, put_more, take_more};
-use crate::number::{i64_len, put_i64, take_enum};
+use crate::nested::{put_more, take_more};
+use crate::number::{put_enum, put_i64, take_enum};
 use crate::refusal::Stop;
-use crate::text::{put_text, take_string, text_len};
+use crate::text::{put_text, take_string};
 use std::alloc::Global;
 use vs_base::{List, Text};
 use vs_wire::FieldValue;
@@ -25,7 +26,7 @@ pub struct FieldEvent {
     pub fields: List<Field>,
 }
 
-#[tactic(auto, unfolding(crate::specs::Tables::field, crate::specs::Shapes::spelling))]
+#[tactic(auto, unfolding(crate::specs::Tables::field))]
 impl Message for Field {
     ghost shape = { field true };
 
@@ -48,20 +49,13 @@ impl Message for Field {
         }
     }
 
-    fn len(&self) -> usize {
-        let name = text_len(1, &self.name);
-        let kind = i64_len(2, i64::from(self.kind));
-        name.saturating_add(kind)
-    }
-
-    fn put(&self, alloc: Global, out: &mut Vec<u8>) -> Result<(), OutOfMemory> {
-        put_text(alloc, out, 1, &self.name)?;
-        put_i64(alloc, out, 2, i64::from(self.kind))?;
-        Ok(())
+    fn put(&self, out: &mut Backward) -> Result<(), OutOfMemory> {
+        put_enum(out, 2, &self.kind)?;
+        put_text(out, 1, &self.name)
     }
 }
 
-#[tactic(auto, unfolding(crate::specs::Tables::field_event, crate::specs::Shapes::spelling))]
+#[tactic(auto, unfolding(crate::specs::Tables::field_event))]
 impl Message for FieldEvent {
     ghost shape = { field_event true };
 
@@ -84,15 +78,8 @@ impl Message for FieldEvent {
         }
     }
 
-    fn len(&self) -> usize {
-        let table_name = text_len(1, &self.table_name);
-        let fields = more_len(2, &self.fields);
-        table_name.saturating_add(fields)
-    }
-
-    fn put(&self, alloc: Global, out: &mut Vec<u8>) -> Result<(), OutOfMemory> {
-        put_text(alloc, out, 1, &self.table_name)?;
-        put_more(alloc, out, 2, &self.fields)?;
-        Ok(())
+    fn put(&self, out: &mut Backward) -> Result<(), OutOfMemory> {
+        put_more(out, 2, &self.fields)?;
+        put_text(out, 1, &self.table_name)
     }
 }

@@ -1,17 +1,16 @@
-ghost use Rattle.std.specs.Prelude.{◌≡◌, ◌++◌, OnOk, length, true};
-ghost use Rattle.vs_proto.specs.Answers.{capped};
-ghost use Rattle.vs_proto.specs.Shapes.{slots_bytes};
-ghost use Rattle.vs_proto.specs.Tables.{event, event_bodies, event_head, event_names, response};
+ghost use Rattle.std.specs.Prelude.{true};
+ghost use Rattle.vs_proto.specs.Tables.{event, response};
 
 use crate::OutOfMemory;
+use crate::backward::Backward;
 use crate::column::FieldEvent;
 use crate::journal::Journal;
 use crate::message::Message;
-use crate::nested::{more_len, one_len, put_more, put_one, take_more, take_one};
-use crate::number::{i64_len, put_i64, take_enum, take_i64};
+use crate::nested::{put_more, put_one, take_more, take_one};
+use crate::number::{put_enum, put_i64, take_enum, take_i64};
 use crate::refusal::Stop;
 use crate::row::RowEvent;
-use crate::text::{put_text, take_string, text_len};
+use crate::text::{put_text, take_string};
 use crate::vgtid::VGtid;
 use std::alloc::Global;
 use vs_base::{List, Text};
@@ -39,7 +38,7 @@ pub struct VStreamResponse {
     pub events: List<VEvent>,
 }
 
-#[tactic(auto, unfolding(crate::specs::Tables::event, crate::specs::Tables::event_head, crate::specs::Tables::event_bodies, crate::specs::Tables::event_names, crate::specs::Shapes::spelling))]
+#[tactic(auto, unfolding(crate::specs::Tables::event))]
 impl Message for VEvent {
     ghost shape = { event true };
 
@@ -80,90 +79,22 @@ impl Message for VEvent {
         }
     }
 
-    fn len(&self) -> usize {
-        let head = self.head_len();
-        let bodies = self.bodies_len();
-        let names = self.names_len();
-        head.saturating_add(bodies.saturating_add(names))
-    }
-
-    fn put(&self, alloc: Global, out: &mut Vec<u8>) -> Result<(), OutOfMemory> {
-        self.put_head(alloc, out)?;
-        self.put_bodies(alloc, out)?;
-        self.put_names(alloc, out)?;
-        Ok(())
-    }
-}
-
-impl VEvent {
-    #[tactic(auto, unfolding(crate::specs::Tables::event_head))]
-    fn head_len(&self) -> usize
-        ensures { result ≡ capped (length (slots_bytes (event_head true) self.now)) }
-    {
-        let kind = i64_len(1, i64::from(self.kind));
-        let timestamp = i64_len(2, self.timestamp);
-        let gtid = text_len(3, &self.gtid);
-        kind.saturating_add(timestamp.saturating_add(gtid))
-    }
-
-    #[tactic(auto, unfolding(crate::specs::Tables::event_head))]
-    fn put_head(&self, alloc: Global, out: &mut Vec<u8>) -> Result<(), OutOfMemory>
-        ensures { OnOk result (out.new.items ≡ out.old.items ++ slots_bytes (event_head true) self.now) }
-    {
-        put_i64(alloc, out, 1, i64::from(self.kind))?;
-        put_i64(alloc, out, 2, self.timestamp)?;
-        put_text(alloc, out, 3, &self.gtid)?;
-        Ok(())
-    }
-
-    #[tactic(auto, unfolding(crate::specs::Tables::event_bodies))]
-    fn bodies_len(&self) -> usize
-        ensures { result ≡ capped (length (slots_bytes (event_bodies true) self.now)) }
-    {
-        let statement = text_len(4, &self.statement);
-        let row_event = one_len(5, &self.row_event);
-        let field_event = one_len(6, &self.field_event);
-        let vgtid = one_len(7, &self.vgtid);
-        let journal = one_len(8, &self.journal);
-        statement.saturating_add(row_event.saturating_add(field_event.saturating_add(
-            vgtid.saturating_add(journal),
-        )))
-    }
-
-    #[tactic(auto, unfolding(crate::specs::Tables::event_bodies))]
-    fn put_bodies(&self, alloc: Global, out: &mut Vec<u8>) -> Result<(), OutOfMemory>
-        ensures { OnOk result (out.new.items ≡ out.old.items ++ slots_bytes (event_bodies true) self.now) }
-    {
-        put_text(alloc, out, 4, &self.statement)?;
-        put_one(alloc, out, 5, &self.row_event)?;
-        put_one(alloc, out, 6, &self.field_event)?;
-        put_one(alloc, out, 7, &self.vgtid)?;
-        put_one(alloc, out, 8, &self.journal)?;
-        Ok(())
-    }
-
-    #[tactic(auto, unfolding(crate::specs::Tables::event_names))]
-    fn names_len(&self) -> usize
-        ensures { result ≡ capped (length (slots_bytes (event_names true) self.now)) }
-    {
-        let current_time = i64_len(20, self.current_time);
-        let keyspace = text_len(22, &self.keyspace);
-        let shard = text_len(23, &self.shard);
-        current_time.saturating_add(keyspace.saturating_add(shard))
-    }
-
-    #[tactic(auto, unfolding(crate::specs::Tables::event_names))]
-    fn put_names(&self, alloc: Global, out: &mut Vec<u8>) -> Result<(), OutOfMemory>
-        ensures { OnOk result (out.new.items ≡ out.old.items ++ slots_bytes (event_names true) self.now) }
-    {
-        put_i64(alloc, out, 20, self.current_time)?;
-        put_text(alloc, out, 22, &self.keyspace)?;
-        put_text(alloc, out, 23, &self.shard)?;
-        Ok(())
+    fn put(&self, out: &mut Backward) -> Result<(), OutOfMemory> {
+        put_text(out, 23, &self.shard)?;
+        put_text(out, 22, &self.keyspace)?;
+        put_i64(out, 20, &self.current_time)?;
+        put_one(out, 8, &self.journal)?;
+        put_one(out, 7, &self.vgtid)?;
+        put_one(out, 6, &self.field_event)?;
+        put_one(out, 5, &self.row_event)?;
+        put_text(out, 4, &self.statement)?;
+        put_text(out, 3, &self.gtid)?;
+        put_i64(out, 2, &self.timestamp)?;
+        put_enum(out, 1, &self.kind)
     }
 }
 
-#[tactic(auto, unfolding(crate::specs::Tables::response, crate::specs::Shapes::spelling))]
+#[tactic(auto, unfolding(crate::specs::Tables::response))]
 impl Message for VStreamResponse {
     ghost shape = { response true };
 
@@ -184,12 +115,7 @@ impl Message for VStreamResponse {
         }
     }
 
-    fn len(&self) -> usize {
-        more_len(1, &self.events)
-    }
-
-    fn put(&self, alloc: Global, out: &mut Vec<u8>) -> Result<(), OutOfMemory> {
-        put_more(alloc, out, 1, &self.events)?;
-        Ok(())
+    fn put(&self, out: &mut Backward) -> Result<(), OutOfMemory> {
+        put_more(out, 1, &self.events)
     }
 }

@@ -1,14 +1,13 @@
-ghost use Rattle.std.specs.Prelude.{◌≡◌, ◌++◌, OnOk, length, true};
-ghost use Rattle.vs_proto.specs.Answers.{capped};
-ghost use Rattle.vs_proto.specs.Shapes.{slots_bytes};
-ghost use Rattle.vs_proto.specs.Tables.{journal, journal_head, journal_lists, keyspace_shard};
+ghost use Rattle.std.specs.Prelude.{true};
+ghost use Rattle.vs_proto.specs.Tables.{journal, keyspace_shard};
 
 use crate::OutOfMemory;
+use crate::backward::Backward;
 use crate::message::Message;
-use crate::nested::{more_len, put_more, take_more};
-use crate::number::{i64_len, put_i64, take_enum, take_i64};
+use crate::nested::{put_more, take_more};
+use crate::number::{put_enum, put_i64, take_enum, take_i64};
 use crate::refusal::Stop;
-use crate::text::{put_text, put_texts, take_string, take_strings, text_len, texts_len};
+use crate::text::{put_text, put_texts, take_string, take_strings};
 use crate::vgtid::ShardGtid;
 use std::alloc::Global;
 use vs_base::{List, Text};
@@ -32,7 +31,7 @@ pub struct Journal {
     pub participants: List<KeyspaceShard>,
 }
 
-#[tactic(auto, unfolding(crate::specs::Tables::keyspace_shard, crate::specs::Shapes::spelling))]
+#[tactic(auto, unfolding(crate::specs::Tables::keyspace_shard))]
 impl Message for KeyspaceShard {
     ghost shape = { keyspace_shard true };
 
@@ -55,20 +54,13 @@ impl Message for KeyspaceShard {
         }
     }
 
-    fn len(&self) -> usize {
-        let keyspace = text_len(1, &self.keyspace);
-        let shard = text_len(2, &self.shard);
-        keyspace.saturating_add(shard)
-    }
-
-    fn put(&self, alloc: Global, out: &mut Vec<u8>) -> Result<(), OutOfMemory> {
-        put_text(alloc, out, 1, &self.keyspace)?;
-        put_text(alloc, out, 2, &self.shard)?;
-        Ok(())
+    fn put(&self, out: &mut Backward) -> Result<(), OutOfMemory> {
+        put_text(out, 2, &self.shard)?;
+        put_text(out, 1, &self.keyspace)
     }
 }
 
-#[tactic(auto, unfolding(crate::specs::Tables::journal, crate::specs::Tables::journal_head, crate::specs::Tables::journal_lists, crate::specs::Shapes::spelling))]
+#[tactic(auto, unfolding(crate::specs::Tables::journal))]
 impl Message for Journal {
     ghost shape = { journal true };
 
@@ -99,57 +91,12 @@ impl Message for Journal {
         }
     }
 
-    fn len(&self) -> usize {
-        let head = self.head_len();
-        let lists = self.lists_len();
-        head.saturating_add(lists)
-    }
-
-    fn put(&self, alloc: Global, out: &mut Vec<u8>) -> Result<(), OutOfMemory> {
-        self.put_head(alloc, out)?;
-        self.put_lists(alloc, out)?;
-        Ok(())
-    }
-}
-
-impl Journal {
-    #[tactic(auto, unfolding(crate::specs::Tables::journal_head))]
-    fn head_len(&self) -> usize
-        ensures { result ≡ capped (length (slots_bytes (journal_head true) self.now)) }
-    {
-        let id = i64_len(1, self.id);
-        let migration_type = i64_len(2, i64::from(self.migration_type));
-        let tables = texts_len(3, &self.tables);
-        id.saturating_add(migration_type.saturating_add(tables))
-    }
-
-    #[tactic(auto, unfolding(crate::specs::Tables::journal_head))]
-    fn put_head(&self, alloc: Global, out: &mut Vec<u8>) -> Result<(), OutOfMemory>
-        ensures { OnOk result (out.new.items ≡ out.old.items ++ slots_bytes (journal_head true) self.now) }
-    {
-        put_i64(alloc, out, 1, self.id)?;
-        put_i64(alloc, out, 2, i64::from(self.migration_type))?;
-        put_texts(alloc, out, 3, &self.tables)?;
-        Ok(())
-    }
-
-    #[tactic(auto, unfolding(crate::specs::Tables::journal_lists))]
-    fn lists_len(&self) -> usize
-        ensures { result ≡ capped (length (slots_bytes (journal_lists true) self.now)) }
-    {
-        let local_position = text_len(4, &self.local_position);
-        let shard_gtids = more_len(5, &self.shard_gtids);
-        let participants = more_len(6, &self.participants);
-        local_position.saturating_add(shard_gtids.saturating_add(participants))
-    }
-
-    #[tactic(auto, unfolding(crate::specs::Tables::journal_lists))]
-    fn put_lists(&self, alloc: Global, out: &mut Vec<u8>) -> Result<(), OutOfMemory>
-        ensures { OnOk result (out.new.items ≡ out.old.items ++ slots_bytes (journal_lists true) self.now) }
-    {
-        put_text(alloc, out, 4, &self.local_position)?;
-        put_more(alloc, out, 5, &self.shard_gtids)?;
-        put_more(alloc, out, 6, &self.participants)?;
-        Ok(())
+    fn put(&self, out: &mut Backward) -> Result<(), OutOfMemory> {
+        put_more(out, 6, &self.participants)?;
+        put_more(out, 5, &self.shard_gtids)?;
+        put_text(out, 4, &self.local_position)?;
+        put_texts(out, 3, &self.tables)?;
+        put_enum(out, 2, &self.migration_type)?;
+        put_i64(out, 1, &self.id)
     }
 }

@@ -1,10 +1,10 @@
 ghost use Rattle.std.specs.Prelude.{true};
 ghost use Rattle.vs_proto.specs.Frames.{
-  IsReadAgain,
   NoneBegins,
   SpellsEventsOnce,
   SpellsOnce,
 };
+ghost use Rattle.vs_proto.specs.Shapes.{IsReadAgain};
 ghost use Rattle.vs_proto.specs.Tables.{
   event,
   field,

@@ -2,10 +2,14 @@
 //! bytes, and written in one canonical spelling.
 #![tactic(auto)]
 
+mod backward;
 mod calls;
 mod cells;
 mod column;
+pub mod column_type;
 mod event;
+pub mod event_kind;
+mod head;
 mod journal;
 mod laws;
 mod message;

@@ -1,9 +1,10 @@
-ghost use Rattle.std.specs.Prelude.{◌≡◌, ◌++◌, OnOk, length};
+ghost use Rattle.std.specs.Prelude.{◌≡◌, OnOk};
 ghost use Rattle.vs_wire.specs.Seen.{seen_value};
-ghost use Rattle.vs_proto.specs.Answers.{Takes, capped};
-ghost use Rattle.vs_proto.specs.Shapes.{Shape, spelling, take_field};
+ghost use Rattle.vs_proto.specs.Answers.{Takes};
+ghost use Rattle.vs_proto.specs.Shapes.{Shape, slots_before, take_field};
 
 use crate::OutOfMemory;
+use crate::backward::Backward;
 use crate::refusal::Stop;
 use std::alloc::Global;
 use vs_wire::FieldValue;
@@ -24,11 +25,7 @@ pub(crate) trait Message: Drop {
     fn take(&mut self, alloc: Global, number: u32, value: FieldValue<'_>) -> Result<(), Stop>
         ensures { Takes result self.new (take_field shape.slots self.old number (seen_value value.entry)) };
 
-    /// How many bytes its spelling has, or the greatest number where they are more.
-    fn len(&self) -> usize
-        ensures { result ≡ capped (length (spelling shape self.now)) };
-
-    /// Appends its spelling, or a part of it where memory runs out.
-    fn put(&self, alloc: Global, out: &mut Vec<u8>) -> Result<(), OutOfMemory>
-        ensures { OnOk result (out.new.items ≡ out.old.items ++ spelling shape self.now) };
+    /// Writes its fields in front, the last one first.
+    fn put(&self, out: &mut Backward) -> Result<(), OutOfMemory>
+        ensures { OnOk result (out.new ≡ slots_before shape.slots self.now out.old) };
 }

@@ -1,8 +1,7 @@
-ghost use Rattle.std.specs.Prelude.{◌≡◌, ◌≤◌, ◌<◌, ◌^◌, ◌++◌, OnOk, length};
+ghost use Rattle.std.specs.Prelude.{◌≡◌, ◌<◌, ◌^◌, ◌++◌, OnOk};
 ghost use Rattle.vs_wire.specs.Fields.{field_bytes, sized};
 ghost use Rattle.vs_wire.specs.Seen.{seen_value};
-ghost use Rattle.vs_proto.specs.Answers.{Takes, capped};
-ghost use Rattle.vs_proto.specs.Kinds.{if_any};
+ghost use Rattle.vs_proto.specs.Answers.{Takes};
 ghost use Rattle.vs_proto.specs.Shapes.{
   all_set,
   if_set,
@@ -13,13 +12,14 @@ ghost use Rattle.vs_proto.specs.Shapes.{
 };
 
 use crate::OutOfMemory;
+use crate::backward::Backward;
+use crate::head::put_head;
 use crate::message::Message;
 use crate::reading::{read_message, read_on};
 use crate::refusal::Stop;
-use crate::text::sized_len;
-use std::alloc::{AllocError, Global};
+use std::alloc::Global;
 use vs_base::List;
-use vs_wire::{FieldValue, put_varint};
+use vs_wire::FieldValue;
 
 /// Takes a message, on top of one that came before.
 pub(crate) fn take_one<M: Message>(
@@ -60,85 +60,52 @@ pub(crate) fn take_more<M: Message>(
     Ok(())
 }
 
-/// Appends a field whose value is a message. One that no memory holds finds none.
-fn put_message<M: Message>(
-    alloc: Global,
-    out: &mut Vec<u8>,
-    field: u32,
-    message: &M,
-) -> Result<(), OutOfMemory>
-    requires { field < 2 ^ 29 }
-    ensures { OnOk result (out.new.items ≡ out.old.items ++ field_bytes field (sized (spelling M.shape message.now))) }
+/// Writes the spelling of a message.
+pub(crate) fn put_message<M: Message>(out: &mut Backward, message: &M) -> Result<(), OutOfMemory>
+    ensures { OnOk result (out.new ≡ spelling M.shape message.now ++ out.old) }
 {
-    let len = message.len();
-    if len == usize::MAX {
-        return Err(AllocError);
-    }
-    put_varint(alloc, out, field as u64 * 8 + 2)?;
-    put_varint(alloc, out, len as u64)?;
-    message.put(alloc, out)?;
-    Ok(())
+    message.put(out)
 }
 
-/// Appends a field of a message, if there is one.
+/// Writes a field whose value is a message.
+fn put_sized<M: Message>(out: &mut Backward, field: u32, message: &M) -> Result<(), OutOfMemory>
+    requires { field < 2 ^ 29 }
+    ensures { OnOk result (out.new ≡ field_bytes field (sized (spelling M.shape message.now)) ++ out.old) }
+{
+    let before = out.len();
+    put_message(out, message)?;
+    put_head(out, field, before)
+}
+
+/// Writes a field of a message, if there is one.
 pub(crate) fn put_one<M: Message>(
-    alloc: Global,
-    out: &mut Vec<u8>,
+    out: &mut Backward,
     field: u32,
     slot: &Option<M>,
 ) -> Result<(), OutOfMemory>
     requires { field < 2 ^ 29 }
-    ensures { OnOk result (out.new.items ≡ out.old.items ++ values_bytes field (if_set M.shape slot.now)) }
+    ensures { OnOk result (out.new ≡ values_bytes field (if_set M.shape slot.now) ++ out.old) }
 {
     match slot {
-        Some(message) => put_message(alloc, out, field, message),
+        Some(message) => put_sized(out, field, message),
         None => Ok(()),
     }
 }
 
-/// Appends a field for each message.
+/// Writes a field for each message.
 pub(crate) fn put_more<M: Message>(
-    alloc: Global,
-    out: &mut Vec<u8>,
+    out: &mut Backward,
     field: u32,
     slot: &List<M>,
 ) -> Result<(), OutOfMemory>
     requires { field < 2 ^ 29 }
-    ensures { OnOk result (out.new.items ≡ out.old.items ++ values_bytes field (all_set M.shape slot.now)) }
+    ensures { OnOk result (out.new ≡ values_bytes field (all_set M.shape slot.now) ++ out.old) }
 {
     let messages = slot.as_slice();
-    for message in messages {
-        put_message(alloc, out, field, message)?;
+    let mut left = messages.len();
+    while left > 0 {
+        left -= 1;
+        put_sized(out, field, &messages[left])?;
     }
     Ok(())
-}
-
-/// How many bytes a field of a message has.
-fn message_len<M: Message>(field: u32, message: &M) -> usize
-    requires { field < 2 ^ 29 }
-    ensures { result ≡ capped (length (field_bytes field (sized (spelling M.shape message.now)))) }
-{
-    sized_len(field, message.len())
-}
-
-pub(crate) fn one_len<M: Message>(field: u32, slot: &Option<M>) -> usize
-    requires { field < 2 ^ 29 }
-    ensures { result ≡ capped (length (values_bytes field (if_set M.shape slot.now))) }
-{
-    match slot {
-        Some(message) => message_len(field, message),
-        None => 0,
-    }
-}
-
-pub(crate) fn more_len<M: Message>(field: u32, slot: &List<M>) -> usize
-    requires { field < 2 ^ 29 }
-    ensures { result ≡ capped (length (values_bytes field (all_set M.shape slot.now))) }
-{
-    let mut len = 0usize;
-    let messages = slot.as_slice();
-    for message in messages {
-        len = len.saturating_add(message_len(field, message));
-    }
-    len
 }

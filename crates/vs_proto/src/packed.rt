@@ -1,8 +1,8 @@
-ghost use Rattle.std.specs.Prelude.{◌≡◌, ◌≤◌, ◌<◌, ◌^◌, ◌++◌, OnOk, length};
+ghost use Rattle.std.specs.Prelude.{◌≡◌, ◌<◌, ◌^◌, ◌++◌, OnOk};
 ghost use Rattle.vs_wire.specs.Fields.{sized};
 ghost use Rattle.vs_wire.specs.Seen.{refusal, seen_value};
 ghost use Rattle.vs_wire.specs.declared.refusal.Flaw.{Flaw};
-ghost use Rattle.vs_proto.specs.Answers.{Takes, capped};
+ghost use Rattle.vs_proto.specs.Answers.{Takes};
 ghost use Rattle.vs_proto.specs.Kinds.{
   if_packed,
   packed_bytes,
@@ -13,11 +13,11 @@ ghost use Rattle.vs_proto.specs.Kinds.{
 ghost use Rattle.vs_proto.specs.Shapes.{values_bytes};
 
 use crate::OutOfMemory;
+use crate::backward::Backward;
+use crate::head::{put_head, put_varint};
 use crate::refusal::{Fault, Stop};
-use crate::text::sized_len;
-use std::alloc::{AllocError, Global};
 use vs_base::List;
-use vs_wire::{FieldValue, WireRefusal, get_varint, put_varint, varint_len};
+use vs_wire::{FieldValue, WireRefusal, get_varint};
 
 /// A signed number as an unsigned one: 0, -1, 1, -2 are 0, 1, 2, 3.
 fn zigzag_of(n: i64) -> u64
@@ -81,59 +81,32 @@ fn moved(why: WireRefusal, at: usize) -> WireRefusal
     }
 }
 
-/// Appends a packed field of the numbers, unless there are none.
+/// Writes a packed field of the numbers, unless there are none.
 pub(crate) fn put_sint64s(
-    alloc: Global,
-    out: &mut Vec<u8>,
+    out: &mut Backward,
     field: u32,
     list: &List<i64>,
 ) -> Result<(), OutOfMemory>
     requires { field < 2 ^ 29 }
-    ensures { OnOk result (out.new.items ≡ out.old.items ++ values_bytes field (if_packed list.now)) }
+    ensures { OnOk result (out.new ≡ values_bytes field (if_packed list.now) ++ out.old) }
 {
     let numbers = list.as_slice();
     if numbers.is_empty() {
         return Ok(());
     }
-    let len = packed_len(numbers);
-    if len == usize::MAX {
-        return Err(AllocError);
-    }
-    put_varint(alloc, out, field as u64 * 8 + 2)?;
-    put_varint(alloc, out, len as u64)?;
-    put_numbers(alloc, out, numbers)?;
-    Ok(())
+    let before = out.len();
+    put_numbers(out, numbers)?;
+    put_head(out, field, before)
 }
 
-/// Appends the numbers one after the other.
-fn put_numbers(alloc: Global, out: &mut Vec<u8>, numbers: &[i64]) -> Result<(), OutOfMemory>
-    ensures { OnOk result (out.new.items ≡ out.old.items ++ packed_bytes numbers.now) }
+/// Writes the numbers one after the other.
+fn put_numbers(out: &mut Backward, numbers: &[i64]) -> Result<(), OutOfMemory>
+    ensures { OnOk result (out.new ≡ packed_bytes numbers.now ++ out.old) }
 {
-    for n in numbers {
-        put_varint(alloc, out, zigzag_of(*n))?;
+    let mut left = numbers.len();
+    while left > 0 {
+        left -= 1;
+        put_varint(out, zigzag_of(numbers[left]))?;
     }
     Ok(())
-}
-
-/// How many bytes the numbers have.
-fn packed_len(numbers: &[i64]) -> usize
-    ensures { result ≡ capped (length (packed_bytes numbers.now)) }
-{
-    let mut len = 0usize;
-    for n in numbers {
-        len = len.saturating_add(varint_len(zigzag_of(*n)));
-    }
-    len
-}
-
-/// How many bytes the packed field has.
-pub(crate) fn sint64s_len(field: u32, list: &List<i64>) -> usize
-    requires { field < 2 ^ 29 }
-    ensures { result ≡ capped (length (values_bytes field (if_packed list.now))) }
-{
-    let numbers = list.as_slice();
-    if numbers.is_empty() {
-        return 0;
-    }
-    sized_len(field, packed_len(numbers))
 }

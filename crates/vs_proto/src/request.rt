@@ -2,11 +2,12 @@ ghost use Rattle.std.specs.Prelude.{true};
 ghost use Rattle.vs_proto.specs.Tables.{filter, flags, request, rule};
 
 use crate::OutOfMemory;
+use crate::backward::Backward;
 use crate::message::Message;
-use crate::nested::{more_len, one_len, put_more, put_one, take_more, take_one};
-use crate::number::{flag_len, put_flag, put_u64, take_flag, take_u64, u64_len};
+use crate::nested::{put_more, put_one, take_more, take_one};
+use crate::number::{put_flag, put_u64, take_flag, take_u64};
 use crate::refusal::Stop;
-use crate::text::{put_text, take_string, text_len};
+use crate::text::{put_text, take_string};
 use crate::vgtid::VGtid;
 use std::alloc::Global;
 use vs_base::{List, Text};
@@ -42,7 +43,7 @@ pub struct VStreamRequest {
     pub flags: Option<Flags>,
 }
 
-#[tactic(auto, unfolding(crate::specs::Tables::rule, crate::specs::Shapes::spelling))]
+#[tactic(auto, unfolding(crate::specs::Tables::rule))]
 impl Message for Rule {
     ghost shape = { rule true };
 
@@ -65,20 +66,13 @@ impl Message for Rule {
         }
     }
 
-    fn len(&self) -> usize {
-        let pattern = text_len(1, &self.pattern);
-        let filter = text_len(2, &self.filter);
-        pattern.saturating_add(filter)
-    }
-
-    fn put(&self, alloc: Global, out: &mut Vec<u8>) -> Result<(), OutOfMemory> {
-        put_text(alloc, out, 1, &self.pattern)?;
-        put_text(alloc, out, 2, &self.filter)?;
-        Ok(())
+    fn put(&self, out: &mut Backward) -> Result<(), OutOfMemory> {
+        put_text(out, 2, &self.filter)?;
+        put_text(out, 1, &self.pattern)
     }
 }
 
-#[tactic(auto, unfolding(crate::specs::Tables::filter, crate::specs::Shapes::spelling))]
+#[tactic(auto, unfolding(crate::specs::Tables::filter))]
 impl Message for Filter {
     ghost shape = { filter true };
 
@@ -99,17 +93,12 @@ impl Message for Filter {
         }
     }
 
-    fn len(&self) -> usize {
-        more_len(1, &self.rules)
-    }
-
-    fn put(&self, alloc: Global, out: &mut Vec<u8>) -> Result<(), OutOfMemory> {
-        put_more(alloc, out, 1, &self.rules)?;
-        Ok(())
+    fn put(&self, out: &mut Backward) -> Result<(), OutOfMemory> {
+        put_more(out, 1, &self.rules)
     }
 }
 
-#[tactic(auto, unfolding(crate::specs::Tables::flags, crate::specs::Shapes::spelling))]
+#[tactic(auto, unfolding(crate::specs::Tables::flags))]
 impl Message for Flags {
     ghost shape = { flags true };
 
@@ -136,26 +125,15 @@ impl Message for Flags {
         }
     }
 
-    fn len(&self) -> usize {
-        let max_skew = u64_len(1, self.max_skew);
-        let heartbeat_interval = u64_len(2, self.heartbeat_interval);
-        let stop_on_reshard = flag_len(3, self.stop_on_reshard);
-        let include_journals = flag_len(4, self.include_journals);
-        max_skew.saturating_add(heartbeat_interval.saturating_add(stop_on_reshard.saturating_add(
-            include_journals,
-        )))
-    }
-
-    fn put(&self, alloc: Global, out: &mut Vec<u8>) -> Result<(), OutOfMemory> {
-        put_u64(alloc, out, 1, self.max_skew)?;
-        put_u64(alloc, out, 2, self.heartbeat_interval)?;
-        put_flag(alloc, out, 3, self.stop_on_reshard)?;
-        put_flag(alloc, out, 4, self.include_journals)?;
-        Ok(())
+    fn put(&self, out: &mut Backward) -> Result<(), OutOfMemory> {
+        put_flag(out, 4, &self.include_journals)?;
+        put_flag(out, 3, &self.stop_on_reshard)?;
+        put_u64(out, 2, &self.heartbeat_interval)?;
+        put_u64(out, 1, &self.max_skew)
     }
 }
 
-#[tactic(auto, unfolding(crate::specs::Tables::request, crate::specs::Shapes::spelling))]
+#[tactic(auto, unfolding(crate::specs::Tables::request))]
 impl Message for VStreamRequest {
     ghost shape = { request true };
 
@@ -180,17 +158,9 @@ impl Message for VStreamRequest {
         }
     }
 
-    fn len(&self) -> usize {
-        let vgtid = one_len(1, &self.vgtid);
-        let filter = one_len(2, &self.filter);
-        let flags = one_len(3, &self.flags);
-        vgtid.saturating_add(filter.saturating_add(flags))
-    }
-
-    fn put(&self, alloc: Global, out: &mut Vec<u8>) -> Result<(), OutOfMemory> {
-        put_one(alloc, out, 1, &self.vgtid)?;
-        put_one(alloc, out, 2, &self.filter)?;
-        put_one(alloc, out, 3, &self.flags)?;
-        Ok(())
+    fn put(&self, out: &mut Backward) -> Result<(), OutOfMemory> {
+        put_one(out, 3, &self.flags)?;
+        put_one(out, 2, &self.filter)?;
+        put_one(out, 1, &self.vgtid)
     }
 }

@@ -2,12 +2,13 @@ ghost use Rattle.std.specs.Prelude.{true};
 ghost use Rattle.vs_proto.specs.Tables.{row, row_change, row_event};
 
 use crate::OutOfMemory;
+use crate::backward::Backward;
 use crate::cells::is_filled;
 use crate::message::Message;
-use crate::nested::{more_len, one_len, put_more, put_one, take_more, take_one};
-use crate::packed::{put_sint64s, sint64s_len, take_sint64s};
+use crate::nested::{put_more, put_one, take_more, take_one};
+use crate::packed::{put_sint64s, take_sint64s};
 use crate::refusal::Stop;
-use crate::text::{put_text, take_blob, take_string, text_len};
+use crate::text::{put_text, take_blob, take_string};
 use std::alloc::Global;
 use vs_base::{List, Text};
 use vs_wire::FieldValue;
@@ -33,7 +34,7 @@ pub struct RowEvent {
     pub row_changes: List<RowChange>,
 }
 
-#[tactic(auto, unfolding(crate::specs::Tables::row, crate::specs::Shapes::spelling))]
+#[tactic(auto, unfolding(crate::specs::Tables::row))]
 impl Message for Row {
     ghost shape = { row true };
 
@@ -56,20 +57,13 @@ impl Message for Row {
         }
     }
 
-    fn len(&self) -> usize {
-        let lengths = sint64s_len(1, &self.lengths);
-        let values = text_len(2, &self.values);
-        lengths.saturating_add(values)
-    }
-
-    fn put(&self, alloc: Global, out: &mut Vec<u8>) -> Result<(), OutOfMemory> {
-        put_sint64s(alloc, out, 1, &self.lengths)?;
-        put_text(alloc, out, 2, &self.values)?;
-        Ok(())
+    fn put(&self, out: &mut Backward) -> Result<(), OutOfMemory> {
+        put_text(out, 2, &self.values)?;
+        put_sint64s(out, 1, &self.lengths)
     }
 }
 
-#[tactic(auto, unfolding(crate::specs::Tables::row_change, crate::specs::Shapes::spelling))]
+#[tactic(auto, unfolding(crate::specs::Tables::row_change))]
 impl Message for RowChange {
     ghost shape = { row_change true };
 
@@ -92,20 +86,13 @@ impl Message for RowChange {
         }
     }
 
-    fn len(&self) -> usize {
-        let before = one_len(1, &self.before);
-        let after = one_len(2, &self.after);
-        before.saturating_add(after)
-    }
-
-    fn put(&self, alloc: Global, out: &mut Vec<u8>) -> Result<(), OutOfMemory> {
-        put_one(alloc, out, 1, &self.before)?;
-        put_one(alloc, out, 2, &self.after)?;
-        Ok(())
+    fn put(&self, out: &mut Backward) -> Result<(), OutOfMemory> {
+        put_one(out, 2, &self.after)?;
+        put_one(out, 1, &self.before)
     }
 }
 
-#[tactic(auto, unfolding(crate::specs::Tables::row_event, crate::specs::Shapes::spelling))]
+#[tactic(auto, unfolding(crate::specs::Tables::row_event))]
 impl Message for RowEvent {
     ghost shape = { row_event true };
 
@@ -128,15 +115,8 @@ impl Message for RowEvent {
         }
     }
 
-    fn len(&self) -> usize {
-        let table_name = text_len(1, &self.table_name);
-        let row_changes = more_len(2, &self.row_changes);
-        table_name.saturating_add(row_changes)
-    }
-
-    fn put(&self, alloc: Global, out: &mut Vec<u8>) -> Result<(), OutOfMemory> {
-        put_text(alloc, out, 1, &self.table_name)?;
-        put_more(alloc, out, 2, &self.row_changes)?;
-        Ok(())
+    fn put(&self, out: &mut Backward) -> Result<(), OutOfMemory> {
+        put_more(out, 2, &self.row_changes)?;
+        put_text(out, 1, &self.table_name)
     }
 }

@@ -19,68 +19,74 @@ fn the_event_of_a_vector_is_read(rt: HostRuntime) -> Result<(), Fail> {
     Ok(())
 }
 
+/// Bytes of an event, and its one spelling.
+const SPELLINGS: [(&[u8], &[u8]); 9] = [
+    (VGTID_EVENT, VGTID_EVENT),
+    // Of two numbers the last counts; a default isn't written.
+    (b"\x10\x01\x10\x02", b"\x10\x02"),
+    (b"\x10\x00\x1a\x00", b""),
+    // Two vectors are merged.
+    (
+        b"\x3a\x05\x0a\x03\x0a\x01a\x3a\x05\x0a\x03\x0a\x01b",
+        b"\x3a\x0a\x0a\x03\x0a\x01a\x0a\x03\x0a\x01b",
+    ),
+    // Unknown fields, and a string as a number, are passed over.
+    (b"\x98\x06\x01\x18\x05\x10\x05", b"\x10\x05"),
+    // Fields in any order are written in ascending order.
+    (b"\x10\x01\x08\x03", b"\x08\x03\x10\x01"),
+    // Negative numbers, and a list of numbers one by one.
+    (
+        b"\x10\xff\xff\xff\xff\xff\xff\xff\xff\xff\x01",
+        b"\x10\xff\xff\xff\xff\xff\xff\xff\xff\xff\x01",
+    ),
+    (
+        b"\x08\xff\xff\xff\xff\x0f",
+        b"\x08\xff\xff\xff\xff\xff\xff\xff\xff\xff\x01",
+    ),
+    (
+        b"\x2a\x0b\x12\x09\x12\x07\x08\x02\x08\x01\x12\x01a",
+        b"\x2a\x0b\x12\x09\x12\x07\x0a\x02\x02\x01\x12\x01a",
+    ),
+];
+
 #[test]
 fn events_are_written_in_their_one_spelling(rt: HostRuntime) -> Result<(), Fail> {
-    let cases: [(&[u8], &[u8]); 9] = [
-        (VGTID_EVENT, VGTID_EVENT),
-        // Of two numbers the last counts; a default isn't written.
-        (b"\x10\x01\x10\x02", b"\x10\x02"),
-        (b"\x10\x00\x1a\x00", b""),
-        // Two vectors are merged.
-        (
-            b"\x3a\x05\x0a\x03\x0a\x01a\x3a\x05\x0a\x03\x0a\x01b",
-            b"\x3a\x0a\x0a\x03\x0a\x01a\x0a\x03\x0a\x01b",
-        ),
-        // Unknown fields, and a string as a number, are passed over.
-        (b"\x98\x06\x01\x18\x05\x10\x05", b"\x10\x05"),
-        // Fields in any order are written in ascending order.
-        (b"\x10\x01\x08\x03", b"\x08\x03\x10\x01"),
-        // Negative numbers, and a list of numbers one by one.
-        (
-            b"\x10\xff\xff\xff\xff\xff\xff\xff\xff\xff\x01",
-            b"\x10\xff\xff\xff\xff\xff\xff\xff\xff\xff\x01",
-        ),
-        (
-            b"\x08\xff\xff\xff\xff\x0f",
-            b"\x08\xff\xff\xff\xff\xff\xff\xff\xff\xff\x01",
-        ),
-        (
-            b"\x2a\x0b\x12\x09\x12\x07\x08\x02\x08\x01\x12\x01a",
-            b"\x2a\x0b\x12\x09\x12\x07\x0a\x02\x02\x01\x12\x01a",
-        ),
-    ];
-    for (bytes, spelling) in cases {
+    for (bytes, spelling) in &SPELLINGS {
         let mut out = Vec::new(rt.alloc());
         write_event(rt.alloc(), &mut out, &read_event(rt.alloc(), bytes)?)?;
-        assert_eq!(rt; out.as_slice(), spelling);
+        assert_eq!(rt; out.as_slice(), *spelling);
     }
     Ok(())
 }
 
+const CUT: WireRefusal = WireRefusal::Cut { at: 0 };
+
+const GROUP: WireRefusal = WireRefusal::BadWireType { at: 0, kind: 3 };
+
+/// Bytes that are no event, and what is wrong with them.
+const REFUSALS: [(&[u8], ProtoRefusal); 5] = [
+    (b"\x08\x01\x1a\x01\xff", ProtoRefusal::NotUtf8 { at: 2 }),
+    (b"\x0b", ProtoRefusal::BadMessage { at: 0, why: GROUP }),
+    (
+        b"\x08\x01\x3a\x01\x0b",
+        ProtoRefusal::BadMessage { at: 2, why: GROUP },
+    ),
+    // A row of one cell of two bytes, with one byte; and a length of -2.
+    (
+        b"\x2a\x0a\x12\x08\x12\x06\x0a\x01\x04\x12\x01a",
+        ProtoRefusal::BadMessage { at: 0, why: CUT },
+    ),
+    (
+        b"\x2a\x07\x12\x05\x12\x03\x0a\x01\x03",
+        ProtoRefusal::BadMessage { at: 0, why: CUT },
+    ),
+];
+
 #[test]
 fn events_are_refused(rt: HostRuntime) {
-    let cut = WireRefusal::Cut { at: 0 };
-    let group = WireRefusal::BadWireType { at: 0, kind: 3 };
-    let cases: [(&[u8], ProtoRefusal); 5] = [
-        (b"\x08\x01\x1a\x01\xff", ProtoRefusal::NotUtf8 { at: 2 }),
-        (b"\x0b", ProtoRefusal::BadMessage { at: 0, why: group }),
-        (
-            b"\x08\x01\x3a\x01\x0b",
-            ProtoRefusal::BadMessage { at: 2, why: group },
-        ),
-        // A row of one cell of two bytes, with one byte; and a length of -2.
-        (
-            b"\x2a\x0a\x12\x08\x12\x06\x0a\x01\x04\x12\x01a",
-            ProtoRefusal::BadMessage { at: 0, why: cut },
-        ),
-        (
-            b"\x2a\x07\x12\x05\x12\x03\x0a\x01\x03",
-            ProtoRefusal::BadMessage { at: 0, why: cut },
-        ),
-    ];
-    for (bytes, refusal) in cases {
+    for (bytes, refusal) in &REFUSALS {
         match read_event(rt.alloc(), bytes) {
-            Err(e) => assert_eq!(rt; e, refusal),
+            Err(e) => assert_eq!(rt; e, *refusal),
             Ok(_) => assert!(rt; false),
         }
     }

@@ -2,11 +2,12 @@ ghost use Rattle.std.specs.Prelude.{true};
 ghost use Rattle.vs_proto.specs.Tables.{shard_gtid, table_key, vgtid};
 
 use crate::OutOfMemory;
+use crate::backward::Backward;
 use crate::message::Message;
-use crate::nested::{more_len, one_len, put_more, put_one, take_more, take_one};
+use crate::nested::{put_more, put_one, take_more, take_one};
 use crate::refusal::Stop;
 use crate::row::Row;
-use crate::text::{put_text, take_string, text_len};
+use crate::text::{put_text, take_string};
 use std::alloc::Global;
 use vs_base::{List, Text};
 use vs_wire::FieldValue;
@@ -33,7 +34,7 @@ pub struct VGtid {
     pub shard_gtids: List<ShardGtid>,
 }
 
-#[tactic(auto, unfolding(crate::specs::Tables::table_key, crate::specs::Shapes::spelling))]
+#[tactic(auto, unfolding(crate::specs::Tables::table_key))]
 impl Message for TableKey {
     ghost shape = { table_key true };
 
@@ -56,20 +57,13 @@ impl Message for TableKey {
         }
     }
 
-    fn len(&self) -> usize {
-        let table_name = text_len(1, &self.table_name);
-        let key = one_len(2, &self.key);
-        table_name.saturating_add(key)
-    }
-
-    fn put(&self, alloc: Global, out: &mut Vec<u8>) -> Result<(), OutOfMemory> {
-        put_text(alloc, out, 1, &self.table_name)?;
-        put_one(alloc, out, 2, &self.key)?;
-        Ok(())
+    fn put(&self, out: &mut Backward) -> Result<(), OutOfMemory> {
+        put_one(out, 2, &self.key)?;
+        put_text(out, 1, &self.table_name)
     }
 }
 
-#[tactic(auto, unfolding(crate::specs::Tables::shard_gtid, crate::specs::Shapes::spelling))]
+#[tactic(auto, unfolding(crate::specs::Tables::shard_gtid))]
 impl Message for ShardGtid {
     ghost shape = { shard_gtid true };
 
@@ -96,24 +90,15 @@ impl Message for ShardGtid {
         }
     }
 
-    fn len(&self) -> usize {
-        let keyspace = text_len(1, &self.keyspace);
-        let shard = text_len(2, &self.shard);
-        let gtid = text_len(3, &self.gtid);
-        let table_p_ks = more_len(4, &self.table_p_ks);
-        keyspace.saturating_add(shard.saturating_add(gtid.saturating_add(table_p_ks)))
-    }
-
-    fn put(&self, alloc: Global, out: &mut Vec<u8>) -> Result<(), OutOfMemory> {
-        put_text(alloc, out, 1, &self.keyspace)?;
-        put_text(alloc, out, 2, &self.shard)?;
-        put_text(alloc, out, 3, &self.gtid)?;
-        put_more(alloc, out, 4, &self.table_p_ks)?;
-        Ok(())
+    fn put(&self, out: &mut Backward) -> Result<(), OutOfMemory> {
+        put_more(out, 4, &self.table_p_ks)?;
+        put_text(out, 3, &self.gtid)?;
+        put_text(out, 2, &self.shard)?;
+        put_text(out, 1, &self.keyspace)
     }
 }
 
-#[tactic(auto, unfolding(crate::specs::Tables::vgtid, crate::specs::Shapes::spelling))]
+#[tactic(auto, unfolding(crate::specs::Tables::vgtid))]
 impl Message for VGtid {
     ghost shape = { vgtid true };
 
@@ -134,12 +119,7 @@ impl Message for VGtid {
         }
     }
 
-    fn len(&self) -> usize {
-        more_len(1, &self.shard_gtids)
-    }
-
-    fn put(&self, alloc: Global, out: &mut Vec<u8>) -> Result<(), OutOfMemory> {
-        put_more(alloc, out, 1, &self.shard_gtids)?;
-        Ok(())
+    fn put(&self, out: &mut Backward) -> Result<(), OutOfMemory> {
+        put_more(out, 1, &self.shard_gtids)
     }
 }

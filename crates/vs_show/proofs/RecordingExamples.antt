@@ -7,7 +7,7 @@ use lib.Utf8.{encode}
 use Rattle.vs_wire.specs.Fields.{walk, field_in, tag_in, tag_parts, value_in}
 use Rattle.vs_wire.specs.Varint.{number_in}
 use Rattle.vs_proto.specs.Shapes.{take_fields}
-use Rattle.vs_proto.specs.Tables.{response, event, event_head, event_bodies, event_names, vgtid, shard_gtid}
+use Rattle.vs_proto.specs.Tables.{response, event, vgtid, shard_gtid}
 use Rattle.vs_show.specs.Cells.{bytes_text, image_text, row_text}
 use Rattle.vs_show.specs.Kinds.{kind_of}
 use Rattle.vs_show.specs.Lines.{entries_line, entry_text, event_lines, frame_lines, shard_text, statement_line}
@@ -25,7 +25,7 @@ one_frame =
     0 ∷ 0 ∷ 0 ∷ 100 ∷ 10 ∷ 70 ∷ 8 ∷ 15 ∷ 16 ∷ 100 ∷ 58 ∷ 56 ∷ 10 ∷ 54 ∷ 10 ∷ 1 ∷ 99 ∷ 18 ∷ 1 ∷ 48 ∷ 26 ∷ 46 ∷ 77 ∷ 121 ∷ 83 ∷ 81 ∷ 76 ∷ 53 ∷ 54 ∷ 47 ∷ 48 ∷ 48 ∷ 48 ∷ 48 ∷ 48 ∷ 48 ∷ 48 ∷ 48 ∷ 45 ∷ 48 ∷ 48 ∷ 48 ∷ 48 ∷ 45 ∷ 48 ∷ 48 ∷ 48 ∷ 48 ∷ 45 ∷ 48 ∷ 48 ∷ 48 ∷ 48 ∷ 45 ∷ 48 ∷ 48 ∷ 48 ∷ 48 ∷ 48 ∷ 48 ∷ 48 ∷ 48 ∷ 48 ∷ 48 ∷ 48 ∷ 49 ∷ 58 ∷ 49 ∷ 178 ∷ 1 ∷ 1 ∷ 99 ∷ 186 ∷ 1 ∷ 1 ∷ 48 ∷ 10 ∷ 26 ∷ 8 ∷ 5 ∷ 16 ∷ 100 ∷ 34 ∷ 12 ∷ 100 ∷ 114 ∷ 111 ∷ 112 ∷ 32 ∷ 116 ∷ 97 ∷ 98 ∷ 108 ∷ 101 ∷ 32 ∷ 116 ∷ 178 ∷ 1 ∷ 1 ∷ 99 ∷ 186 ∷ 1 ∷ 1 ∷ 48 ∷ []
 
 whole_frame : recorded_from 1 one_frame ≡ record { lines = codes "#1" ++ 10 ∷ codes "VGTID c/0@MySQL56/00000000-0000-0000-0000-000000000001:1" ++ 10 ∷ codes "DDL c/0 'drop table t'" ++ 10 ∷ []; bad = None }
-unfolding recorded_in front take_fields response event event_head event_bodies event_names vgtid shard_gtid walk field_in tag_in tag_parts value_in number_in frame_lines event_lines kind_of entries_line entry_text shard_text statement_line bytes_text digits is_utf8 chars encode
+unfolding recorded_in front take_fields response event vgtid shard_gtid walk field_in tag_in tag_parts value_in number_in frame_lines event_lines kind_of entries_line entry_text shard_text statement_line bytes_text digits is_utf8 chars encode
 whole_frame = refl
 
 cut_frame : bad_frame (take 50 one_frame) ≡ Some (1, Cut)

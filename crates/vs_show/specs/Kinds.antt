@@ -1,18 +1,19 @@
--- The kinds of events, by the numbers of their types in `binlogdata.proto`.
-use Rattle.std.specs.Prelude.{ℤ, pos, if◌then◌else◌}
+-- The kinds of events, by their numbers.
+use Rattle.std.specs.Prelude.{ℤ, if◌then◌else◌}
 use Rattle.std.specs.Ordering.{int_eq}
+use Rattle.vs_proto.specs.declared.event_kind.TheConstants.{BEGIN, COMMIT, DDL, OTHER, ROW, FIELD, HEARTBEAT, VGTID, JOURNAL, COPY_COMPLETED}
 use Rattle.vs_show.specs.declared.kind.Kind.{Kind}
 use Rattle.vs_show.specs.declared.kind.Kind.TheVariants.{Begin, Commit, Ddl, Other, Row, Field, Heartbeat, Vgtid, Journal, CopyCompleted, Unnamed}
 
 unfoldable pub kind_of : ℤ → Kind
 kind_of n =
-    if int_eq n (pos 2) then Begin else
-    (if int_eq n (pos 3) then Commit else
-    (if int_eq n (pos 5) then Ddl else
-    (if int_eq n (pos 11) then Other else
-    (if int_eq n (pos 12) then Row else
-    (if int_eq n (pos 13) then Field else
-    (if int_eq n (pos 14) then Heartbeat else
-    (if int_eq n (pos 15) then Vgtid else
-    (if int_eq n (pos 16) then Journal else
-    (if int_eq n (pos 20) then CopyCompleted else Unnamed)))))))))
+    if int_eq n BEGIN then Begin else
+    (if int_eq n COMMIT then Commit else
+    (if int_eq n DDL then Ddl else
+    (if int_eq n OTHER then Other else
+    (if int_eq n ROW then Row else
+    (if int_eq n FIELD then Field else
+    (if int_eq n HEARTBEAT then Heartbeat else
+    (if int_eq n VGTID then Vgtid else
+    (if int_eq n JOURNAL then Journal else
+    (if int_eq n COPY_COMPLETED then CopyCompleted else Unnamed)))))))))

@@ -1,5 +1,7 @@
 ghost use Rattle.std.specs.Prelude.{◌≡◌};
 
+use vs_proto::event_kind;
+
 /// What an event tells.
 pub(crate) enum Kind {
     Begin,
@@ -25,16 +27,16 @@ impl Kind {
         ensures { result ≡ kind_of number }
     {
         match number {
-            2 => Kind::Begin,
-            3 => Kind::Commit,
-            5 => Kind::Ddl,
-            11 => Kind::Other,
-            12 => Kind::Row,
-            13 => Kind::Field,
-            14 => Kind::Heartbeat,
-            15 => Kind::Vgtid,
-            16 => Kind::Journal,
-            20 => Kind::CopyCompleted,
+            event_kind::BEGIN => Kind::Begin,
+            event_kind::COMMIT => Kind::Commit,
+            event_kind::DDL => Kind::Ddl,
+            event_kind::OTHER => Kind::Other,
+            event_kind::ROW => Kind::Row,
+            event_kind::FIELD => Kind::Field,
+            event_kind::HEARTBEAT => Kind::Heartbeat,
+            event_kind::VGTID => Kind::Vgtid,
+            event_kind::JOURNAL => Kind::Journal,
+            event_kind::COPY_COMPLETED => Kind::CopyCompleted,
             _ => Kind::Unnamed,
         }
     }
