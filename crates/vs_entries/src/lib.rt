@@ -7,6 +7,7 @@
 
 mod body;
 mod event;
+mod fault;
 mod front;
 mod laws;
 mod progress;
@@ -19,6 +20,7 @@ mod standing;
 mod tests;
 mod took;
 mod walk;
+mod window;
 
 pub use laws::law_no_journals;
 pub use reader::Reader;

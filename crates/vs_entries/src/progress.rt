@@ -19,12 +19,9 @@ use vs_base::{Change, Gtid, List, OutOfMemory, Why};
 use vs_binlog::{Step, next_event, read_head};
 use vs_gtid::{GtidRefusal, GtidSet};
 use vs_journal::{Entry, Work};
-use vs_log::{Sort, Statement, law_changes};
+use vs_log::{LIMIT, Sort, Statement, law_changes};
 use vs_rows::Maps;
 use vs_schema::Schema;
-
-/// The greatest number of bytes of an event, and of the events of an entry together.
-const LIMIT: u64 = 8_388_608;
 
 /// What the events of a log so far have come to, but for the entries that ended.
 #[derive(Debug, Drop)]
