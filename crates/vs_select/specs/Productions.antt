@@ -2,7 +2,7 @@
 use Rattle.std.specs.Prelude.{◌≡◌, ◌≤◌, ◌-◌, ◌⊎◌, ℕ, Bool, true, false, not, ◌||◌, ◌==◌, List, [], ◌∷◌, ◌++◌, length, Option, Some, None, Ok, Err, codes, nat_eq}
 use Rattle.std.specs.List.{IsDistinct, list_all}
 use Rattle.std.specs.Cmp.Lexicographic.{pointwise}
-use Rattle.vs_select.specs.Numbers.{digits_value, is_digit}
+use Rattle.vs_base.specs.Numbers.{digits_value, is_digit}
 use Rattle.vs_select.specs.Grammar.{select_of}
 use Rattle.vs_select.specs.Parts.{is_blank, is_keyword, is_word_byte}
 use Rattle.vs_select.specs.declared.part.Part.{Part}
@@ -14,11 +14,9 @@ use Rattle.vs_select.specs.declared.select.Condition.{Condition}
 use Rattle.vs_select.specs.declared.select.Condition.TheVariants.{Compares, IsNull, IsNotNull}
 use Rattle.vs_select.specs.declared.select.Test.{Test}
 use Rattle.vs_select.specs.declared.select.Select.{Select}
+pub use Rattle.vs_base.specs.Blanks.{AreBlanks}
 
 -- ---- how a part is spelled
-
-abbrev pub AreBlanks : List ℕ → Type 0
-AreBlanks text = list_all is_blank text ≡ true
 
 -- bytes and the quote behind them, with two quotes for each of theirs
 abbrev pub quoted_byte : Bool → ℕ → List ℕ → List ℕ
