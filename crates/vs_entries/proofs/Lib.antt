@@ -4,3 +4,4 @@ pub mod Journals
 pub mod WalkLemmas
 pub mod WindowLemmas
 pub mod OverLemmas
+pub mod Parts

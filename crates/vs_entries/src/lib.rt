@@ -22,6 +22,6 @@ mod took;
 mod walk;
 mod window;
 
-pub use laws::law_no_journals;
+pub use laws::{law_no_journals, law_part};
 pub use reader::Reader;
 pub use took::{LogRefusal, Took};

@@ -2,6 +2,7 @@
 use Rattle.vs_log.specs.declared.event.Sort.{Sort}
 use Rattle.vs_log.specs.declared.event.Sort.TheVariants.{AnonymousEvent, PassedOver, FormatEvent, PreviousEvent, GtidEvent, QueryEvent, XidEvent, MapEvent, RowsEvent, ForeignEvent}
 use Rattle.std.specs.Prelude.{◌≡◌, ◌≤◌, ◌<◌, ◌⊎◌, ℕ, ◌+◌, ◌/◌, ◌%◌, ◌==◌, Bool, ◌&&◌, ◌||◌, not, nat_le, if◌then◌else◌, List, [], ◌∷◌, ◌++◌, length}
+use Rattle.vs_base.specs.Limits.{most_entry}
 use Rattle.vs_binlog.specs.Heads.{Event, kind_of, flags_of, length_of}
 
 -- the kinds that have a line of their own
@@ -44,7 +45,7 @@ joined (e ∷ es) = e ++ joined es
 
 -- the greatest number of bytes of an event, and of the events of an entry together
 abbrev pub limit : ℕ
-limit = 67108864
+limit = most_entry
 
 -- the place of a log by which each of its events ends
 abbrev pub last_place : ℕ

@@ -13,10 +13,10 @@ invariant_of-self-then-self c =
     let over = over_room _ c.self.inside.window c.make_room.new.window c.self.inside.walk c.self.inside.refused c.self.invariant.over c.make_room.ensures.bytes c.make_room.ensures.from c.make_room.ensures.begun in
     record {
       over = subst (λ (w : Windowed). IsOver (rules_of c.self.inside.keyspace c.self.inside.schema) w c.self.inside.walk c.self.inside.refused) (sym c.in_ok-feed.ensures.ok)
-      (over_more c.laws.ensures _ c.make_room.new.window c.args.piece.now c.self.inside.walk c.self.inside.refused over (elim c.then-self.branch [
-      | then-self-via-then-self w ↦ ◌⊎◌.inl w.if-self.true
-      | then-self-via-else-self+then-not-is_early w ↦ ◌⊎◌.inr (sym w.if-not-is_early.ensures)
-    ]));
+          (over_more c.laws.ensures _ c.make_room.new.window c.args.piece.now c.self.inside.walk c.self.inside.refused over (elim c.then-self.branch [
+            | then-self-via-then-self w ↦ ◌⊎◌.inl w.if-self.true
+            | then-self-via-else-self+then-not-is_early w ↦ ◌⊎◌.inr (sym w.if-not-is_early.ensures)
+          ]));
       fault = fault_fed c.laws.ensures _ c.self.inside.window c.make_room.new.window c.feed.new.self c.args.piece.now _ _ c.self.inside.fault c.make_room.ensures.bytes c.in_ok-feed.ensures.ok refl c.self.invariant.fault;
     }
 
