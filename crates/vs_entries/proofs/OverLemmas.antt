@@ -1,5 +1,5 @@
 -- A walk that is put back, and one over bytes of which some were let go.
-use Rattle.std.proofs.Common.{◌≡◌, ◌≤◌, ◌<◌, ◌+◌, ℕ, suc, Bool, true, false, List, [], ◌∷◌, ◌++◌, length, length-append, length-drop, drop, Option, Some, None, Result, Ok, Err, refl, ap, sym, subst, ◌∙◌, arith}
+use Rattle.std.proofs.Common.{◌≡◌, ◌≤◌, ◌<◌, ℕ, Bool, true, false, List, [], ◌++◌, length, length-drop, drop, Option, Some, None, Err, refl, ap, sym, subst, ◌∙◌, arith}
 use Rattle.std.specs.Prelude.{◌⊎◌}
 use Rattle.std.proofs.lemmas.Bool.{cases_lt}
 use Rattle.vs_base.specs.declared.Change.{Change}
@@ -9,14 +9,14 @@ use Rattle.vs_rows.specs.Tables.{Tables}
 use Rattle.vs_schema.specs.declared.schema.Schema.{Schema}
 use Rattle.vs_log.specs.States.{State}
 use Rattle.vs_log.specs.Events.{IsPart}
-use Rattle.vs_log.specs.Meaning.{has_magic, log_meant}
+use Rattle.vs_log.specs.Meaning.{log_meant}
 use Rattle.vs_log.specs.Steps.{Reaches, next_state}
 use Rattle.vs_log.specs.Table.{Rules}
 use Rattle.vs_entries.specs.Laws.{LogLaws}
 use Rattle.vs_entries.specs.Pieces.{Fed, Gives, log_fed}
 use Rattle.vs_entries.specs.Reading.{is_early, place_of, state_of, with_entries}
 use Rattle.vs_entries.specs.Rules.{rules_of}
-use Rattle.vs_entries.specs.Walks.{IsBack, IsBegunAt, IsFresh, IsOver, IsReader, IsStuck, IsWalk, KeepsFault, ReadsTo, Stands, Tells}
+use Rattle.vs_entries.specs.Walks.{IsBack, IsBegunAt, IsFresh, IsOver, IsStuck, IsWalk, KeepsFault, ReadsTo, Stands, Tells}
 use Rattle.vs_entries.specs.Windows.{Windowed}
 use Rattle.vs_entries.specs.declared.fault.Fault.{Fault}
 use Rattle.vs_entries.specs.declared.standing.Standing.{Standing}

@@ -1,7 +1,7 @@
 -- How a walk over a log's bytes stands for what they mean.
-use Rattle.std.proofs.Common.{◌≡◌, ◌≤◌, ◌<◌, ◌+◌, ℕ, Bool, true, false, List, [], ◌∷◌, ◌++◌, length, take, drop, if◌then◌else◌, Option, Some, None, Result, Ok, Err, refl, ap, sym, subst, ◌∙◌, arith, append-nil, append_assoc, length-append}
+use Rattle.std.proofs.Common.{◌≡◌, ◌≤◌, ◌<◌, ◌+◌, ℕ, Bool, true, false, List, [], ◌∷◌, ◌++◌, length, drop, Option, Some, None, Result, Ok, Err, refl, ap, sym, subst, ◌∙◌, arith, append-nil, append_assoc, length-append}
 use Rattle.std.specs.Prelude.{◌⊎◌}
-use Rattle.std.proofs.lemmas.List.{append_cancel_left, drop-drop, drop-append-le, take_all, take-append-drop}
+use Rattle.std.proofs.lemmas.List.{append_cancel_left, drop-append-le}
 use Rattle.vs_base.specs.declared.change.Change.{Change}
 use Rattle.vs_base.specs.declared.Gtid.{Gtid}
 use Rattle.vs_rows.specs.Tables.{Tables}
@@ -9,15 +9,14 @@ use Rattle.vs_base.specs.declared.Why.{Why}
 use Rattle.vs_base.specs.declared.Why.TheVariants.{BadMagic}
 use Rattle.vs_gtid.specs.declared.Entry.{Entry}
 use Rattle.vs_gtid.specs.Logs.{Log}
-use Rattle.vs_binlog.specs.Heads.{Event, length_of}
 use Rattle.vs_log.specs.States.{Place as place}
 use Rattle.vs_log.specs.States.{State}
-use Rattle.vs_log.specs.Events.{is_held, joined, last_place, magic}
-use Rattle.vs_log.specs.Meaning.{at_place, front, has_magic, head_refusal, is_base_known, knows_base, log_meant, log_of, log_unread}
+use Rattle.vs_log.specs.Events.{last_place}
+use Rattle.vs_log.specs.Meaning.{at_place, has_magic, is_base_known, knows_base, log_meant, log_of}
 use Rattle.vs_log.specs.Productions.{EntryEndsAt, StandsAt}
 use Rattle.vs_log.specs.Steps.{Reaches, next_state, open_gtid, result_with_past, with_past}
 use Rattle.vs_log.specs.Laws.{OpensOrEnds}
-use Rattle.vs_log.specs.Table.{Rules, step}
+use Rattle.vs_log.specs.Table.{Rules}
 use Rattle.vs_entries.specs.Laws.{LogLaws}
 use Rattle.vs_entries.specs.Pieces.{IsBehind}
 use Rattle.vs_entries.specs.Reading.{is_early, is_refused, place_of, state_of, with_entries}

@@ -6,7 +6,7 @@ use Rattle.vs_log.specs.Meaning.{has_magic}
 use Rattle.vs_entries.specs.Pieces.{Fed, log_fed}
 use Rattle.vs_entries.specs.Rules.{rules_of}
 use Rattle.vs_entries.proofs.WalkLemmas.{refuses_magic, starts, wants_magic}
-use Rattle.vs_entries.proofs.OverLemmas.{fault_found, fault_not, over_read, past_magic, short_part, tells_fault}
+use Rattle.vs_entries.proofs.OverLemmas.{fault_found, fault_not, over_read, past_magic, short_part}
 use Rattle.vs_entries.proofs.reader.Reader.next_entry.Goals.{then-from-eq0+else-not-begins_as_log+else-front-lt4, else-from-eq0}
 use Rattle.vs_entries.proofs.reader.Reader.next_entry.Goals as goal
 
