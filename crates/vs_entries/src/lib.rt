@@ -9,6 +9,7 @@ mod body;
 mod event;
 mod fault;
 mod front;
+mod kind;
 mod laws;
 mod progress;
 mod query;
