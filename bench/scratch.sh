@@ -2,6 +2,11 @@
 # proves, builds and runs it; nothing of it stays. The program's text comes from standard input.
 # Usage: run_scratch NAME "LIBRARIES OF THE PROGRAM" CRATE ..   (every crate that it stands on, lowest first)
 run_scratch() {
+    make_scratch "$@" && "out/$1"
+}
+
+# The same without the run: the program is out/NAME of the folder that is then the current one.
+make_scratch() {
     local name=$1 libraries=$2 top crate part
     shift 2
     top=$(cd "$(dirname "${BASH_SOURCE[0]}")/.." && pwd)
@@ -25,7 +30,6 @@ run_scratch() {
     cd "$room/crates/$name"
     rt fmt > /dev/null
     # The gate compares what a program prints; times differ, so the built program is run here.
-    rt run > "$room/log" 2>&1 || true
+    rt run > "$room/log" 2>&1 < /dev/null || true
     [ -x "out/$name" ] || { tail -n 40 "$room/log"; return 1; }
-    "out/$name"
 }

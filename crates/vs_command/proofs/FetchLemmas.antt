@@ -33,23 +33,6 @@ use Rattle.vs_command.specs.Streaming.{or_none, schema_in}
 
 -- ---- more bytes
 
--- what stands at a place stands there with more bytes
-StandsAt-more : (rules : Rules Tables) (bytes more : List ℕ) (g : Gtid) (at : ℕ) → StandsAt rules bytes g at → StandsAt rules (bytes ++ more) g at
-StandsAt-more rules bytes more g at h = record {
-  before = h.before;
-  event = h.event;
-  rest = h.rest ++ more;
-  cut = record {
-    are = ap (λ b. b ++ more) h.cut.are ∙ append_assoc magic (joined (h.before ++ h.event ∷ []) ++ h.rest) more ∙ ap (λ l. magic ++ l) (append_assoc (joined (h.before ++ h.event ∷ [])) h.rest more);
-    whole = h.cut.whole;
-    short = h.cut.short;
-  };
-  place = h.place;
-  state = h.state;
-  begins = h.begins;
-  names = h.names;
-}
-
 ArePlaced-weaken : (P Q : Gtid → ℕ → Type 0) (placed : List Placed) → ((g : Gtid) (at : ℕ) → P g at → Q g at) → ArePlaced P placed → ArePlaced Q placed
 ArePlaced-weaken P Q [] f h = tt
 ArePlaced-weaken P Q (t ∷ placed) f h = (f t.entry.gtid t.at h.0, ArePlaced-weaken P Q placed f h.1)
@@ -63,14 +46,14 @@ pub HasGiven-fresh : (keyspace : List ℕ) (schema : Schema) → HasGiven (fresh
 HasGiven-fresh keyspace schema = record { count = refl; within = omega arith; entries = refl; places = tt }
 
 -- what was given stays, whatever bytes come
-pub HasGiven-fed : ((rules : Rules Tables) (bytes more : List ℕ) → Grows rules bytes more) → (r : Fed) (piece : List ℕ) (placed : List Placed) → HasGiven r placed → HasGiven (with_piece r piece) placed
-HasGiven-fed law r piece placed h =
+pub HasGiven-fed : ((rules : Rules Tables) (bytes more : List ℕ) → Grows rules bytes more) → (r : Fed) (piece : List ℕ) (at from : ℕ) (placed : List Placed) → HasGiven r placed → HasGiven (with_piece r piece at from) placed
+HasGiven-fed law r piece at from placed h =
     let grows : Grows (rules_fed r) r.bytes piece = law (rules_fed r) r.bytes piece in
     record {
       count = h.count;
       within = omega (arith, h.within, ap (λ es. length es) grows.entries.1, length-append (log_fed r).entries grows.entries.0);
       entries = h.entries ∙ sym (grows.given r.given h.within);
-      places = ArePlaced-weaken (StandsAt (rules_fed r) r.bytes) (StandsAt (rules_fed r) (r.bytes ++ piece)) placed (λ g at s. StandsAt-more (rules_fed r) r.bytes piece g at s) h.places;
+      places = ArePlaced-weaken (StandsAt (rules_fed r) r.bytes) (StandsAt (rules_fed r) (r.bytes ++ piece)) placed grows.begins h.places;
     }
 
 -- each entry that is given leaves fewer

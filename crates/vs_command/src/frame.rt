@@ -121,8 +121,8 @@ fn entry_events(
     Ok(events)
 }
 
-/// The frame of an entry, with the vector after it. A message over the limit finds no memory; no
-/// statement of a log makes one.
+/// The frame of an entry, with the vector after it. A message over the limit finds no memory; only a
+/// statement near that limit makes one.
 pub fn entry_frame(
     alloc: Global,
     name: &ShardName,

@@ -1,7 +1,7 @@
 -- How a walk over a log's bytes stands for what they mean.
-use Rattle.std.proofs.Common.{◌≡◌, ◌≤◌, ◌<◌, ◌+◌, ℕ, Bool, true, false, List, [], ◌∷◌, ◌++◌, length, take, drop, if◌then◌else◌, Option, Some, None, Result, Ok, Err, refl, ap, sym, subst, ◌∙◌, arith, append-nil, append_assoc, length-append}
+use Rattle.std.proofs.Common.{◌≡◌, ◌≤◌, ◌<◌, ◌+◌, ℕ, Bool, true, false, List, [], ◌∷◌, ◌++◌, length, drop, Option, Some, None, Result, Ok, Err, refl, ap, sym, subst, ◌∙◌, arith, append-nil, append_assoc, length-append}
 use Rattle.std.specs.Prelude.{◌⊎◌}
-use Rattle.std.proofs.lemmas.List.{append_cancel_left, drop-drop, drop-append-le, take_all, take-append-drop}
+use Rattle.std.proofs.lemmas.List.{append_cancel_left, drop-append-le}
 use Rattle.vs_base.specs.declared.change.Change.{Change}
 use Rattle.vs_base.specs.declared.Gtid.{Gtid}
 use Rattle.vs_rows.specs.Tables.{Tables}
@@ -9,19 +9,18 @@ use Rattle.vs_base.specs.declared.Why.{Why}
 use Rattle.vs_base.specs.declared.Why.TheVariants.{BadMagic}
 use Rattle.vs_gtid.specs.declared.Entry.{Entry}
 use Rattle.vs_gtid.specs.Logs.{Log}
-use Rattle.vs_binlog.specs.Heads.{Event, length_of}
 use Rattle.vs_log.specs.States.{Place as place}
 use Rattle.vs_log.specs.States.{State}
-use Rattle.vs_log.specs.Events.{is_held, joined, last_place, magic}
-use Rattle.vs_log.specs.Meaning.{at_place, front, has_magic, head_refusal, is_base_known, knows_base, log_meant, log_of, log_unread}
+use Rattle.vs_log.specs.Events.{last_place}
+use Rattle.vs_log.specs.Meaning.{at_place, has_magic, is_base_known, knows_base, log_meant, log_of}
 use Rattle.vs_log.specs.Productions.{EntryEndsAt, StandsAt}
 use Rattle.vs_log.specs.Steps.{Reaches, next_state, open_gtid, result_with_past, with_past}
 use Rattle.vs_log.specs.Laws.{OpensOrEnds}
-use Rattle.vs_log.specs.Table.{Rules, step}
+use Rattle.vs_log.specs.Table.{Rules}
 use Rattle.vs_entries.specs.Laws.{LogLaws}
 use Rattle.vs_entries.specs.Pieces.{IsBehind}
 use Rattle.vs_entries.specs.Reading.{is_early, is_refused, place_of, state_of, with_entries}
-use Rattle.vs_entries.specs.Walks.{IsBegunAt, IsFresh, IsMoved, IsStuck, IsWalk, ReadsTo, Stands, TurnsTo, begun_after}
+use Rattle.vs_entries.specs.Walks.{IsBegunAt, IsFresh, IsLeft, IsMoved, IsStuck, IsWalk, ReadsTo, Stands, TurnsTo, begun_after}
 use Rattle.vs_entries.specs.declared.standing.Standing.{Standing}
 use Rattle.vs_entries.specs.declared.standing.Standing.TheVariants.{Front, Between, Named, Inside}
 use Rattle.vs_entries.specs.declared.walk.Next.{Next}
@@ -182,6 +181,11 @@ ends laws rules bytes walk why s h =
     let is = (ends_so laws rules bytes walk why s h).log in
     (ap (λ (z : Log). length z.entries) is ∙ s.given, ap (λ (z : Log). z.fault) is)
 
+-- and where nothing is wrong, less than an event is left
+left_there : (laws : LogLaws) (rules : Rules Tables) (bytes : List ℕ) (walk : Walk) (why : Option Why) → next_state rules walk.at (state_of walk.progress) (drop walk.at bytes) ≡ Err why → IsLeft why (drop walk.at bytes)
+left_there laws rules bytes walk None h = (laws.steps rules).part walk.at (state_of walk.progress) (drop walk.at bytes) h
+left_there laws rules bytes walk (Some why) h = tt
+
 -- ---- whether the base is known
 
 late : (standing : Standing) (maps : Tables) (changes : List Change) → is_early standing ≡ false → is_base_known (place_of standing maps changes) None ≡ true
@@ -287,23 +291,18 @@ none_given laws rules bytes walk refused w h = go w.stands h where
   go (◌⊎◌.inr s) (◌⊎◌.inl k) = let e : true ≡ false = sym (magic_held s).0 ∙ k in absurd (cc)
   go (◌⊎◌.inr s) (◌⊎◌.inr k) = let e : 4 ≤ length bytes = (magic_held s).1 in absurd (omega (arith, e, k))
 
-pub walk_starts : (laws : LogLaws) (rules : Rules Tables) (bytes : List ℕ) (walk : Walk) (refused : Bool) → IsWalk rules bytes walk refused → has_magic bytes ≡ true → 4 ≤ length bytes → Stands rules bytes walk
-walk_starts laws rules bytes walk refused w h l = go w.stands where
-  go : IsFresh walk ⊎ Stands rules bytes walk → Stands rules bytes walk
-  go (◌⊎◌.inl f) = fresh_stands laws rules bytes walk f h l
-  go (◌⊎◌.inr s) = s
-
 -- ---- a walk up to the next entry
 
 -- what a walk keeps that gives no entry
 pub record Goes (rules : Rules Tables) (bytes : List ℕ) (old now : Walk) : Type 0 where
   pub stands : Stands rules bytes now
   pub given : now.given ≡ old.given
+  pub later : old.at ≤ now.at
   pub early : is_early now.progress.standing ≡ true → is_early old.progress.standing ≡ true
   pub stuck : IsStuck rules bytes old → IsStuck rules bytes now
 
 pub goes_first : (rules : Rules Tables) (bytes : List ℕ) (old : Walk) → Stands rules bytes old → Goes rules bytes old old
-goes_first rules bytes old s = record { stands = s; given = refl; early = λ h. h; stuck = λ h. h }
+goes_first rules bytes old s = record { stands = s; given = refl; later = omega arith; early = λ h. h; stuck = λ h. h }
 
 was_early : (laws : LogLaws) (rules : Rules Tables) (bytes : List ℕ) (old new : Walk) (entries : List Entry) → IsMoved rules bytes old new entries → (b : Bool) → is_early old.progress.standing ≡ b → is_early new.progress.standing ≡ true → b ≡ true
 was_early laws rules bytes old new entries m true p h = refl
@@ -313,6 +312,7 @@ pub goes_on : (laws : LogLaws) (rules : Rules Tables) (bytes : List ℕ) (old no
 goes_on laws rules bytes old now new g m = record {
   stands = stands_on laws rules bytes now new [] (omega arith) g.stands m;
   given = omega (arith, m.given, g.given);
+  later = omega (arith, m.later, g.later);
   early = λ h. g.early (was_early laws rules bytes now new [] m _ refl h);
   stuck = λ s. absurd (not_moved rules bytes now new [] (g.stuck s) m);
 }
@@ -321,6 +321,7 @@ goes_on laws rules bytes old now new g m = record {
 pub record Comes (rules : Rules Tables) (bytes : List ℕ) (old new : Walk) (to : Type 0) : Type 0 where
   pub stands : Stands rules bytes new
   pub reads : to
+  pub later : old.at ≤ new.at
   pub early : is_early new.progress.standing ≡ true → is_early old.progress.standing ≡ true
   pub given : is_early new.progress.standing ≡ true → new.given ≡ old.given
   pub stuck : IsStuck rules bytes old → IsStuck rules bytes new
@@ -334,6 +335,7 @@ comes laws rules bytes old now new (Gave e) g t =
     record {
       stands = stands_on laws rules bytes now new (e ∷ []) (omega arith) g.stands m;
       reads = (subst (λ z. IsBehind z (log_meant rules bytes).entries e) g.given r.0, r.1, subst (λ z. EntryEndsAt rules bytes z new.at) g.given r.2, r.3 ∙ ap (λ z. z + 1) g.given);
+      later = omega (arith, g.later, m.later);
       early = λ h. absurd (never h);
       given = λ h. absurd (never h);
       stuck = λ s. absurd (not_moved rules bytes now new (e ∷ []) (g.stuck s) m);
@@ -344,7 +346,8 @@ comes laws rules bytes old now new (Ended why) g t =
     let e = ends laws rules bytes now why g.stands t.0 in
     record {
       stands = g.stands;
-      reads = (e.0 ∙ g.given, e.1, g.given);
+      reads = (e.0 ∙ g.given, e.1, g.given, left_there laws rules bytes now why t.0);
+      later = g.later;
       early = g.early;
       given = λ h. g.given;
       stuck = g.stuck;
@@ -352,20 +355,45 @@ comes laws rules bytes old now new (Ended why) g t =
 
 pub comes_to_nothing : (laws : LogLaws) (rules : Rules Tables) (bytes : List ℕ) (old now new : Walk) → Goes rules bytes old now → new ≡ now → Comes rules bytes old new (new.given ≡ old.given)
 comes_to_nothing laws rules bytes old now new g same =
-    subst (λ z. Comes rules bytes old z (z.given ≡ old.given)) (sym same) (record { stands = g.stands; reads = g.given; early = g.early; given = λ h. g.given; stuck = g.stuck })
+    subst (λ z. Comes rules bytes old z (z.given ≡ old.given)) (sym same) (record { stands = g.stands; reads = g.given; later = g.later; early = g.early; given = λ h. g.given; stuck = g.stuck })
 
 -- ---- a walk up to the first event that tells of the base
 
-pub record IsFront (rules : Rules Tables) (bytes : List ℕ) (walk : Walk) : Type 0 where
+pub record IsFront (rules : Rules Tables) (bytes : List ℕ) (first walk : Walk) : Type 0 where
   pub stands : Stands rules bytes walk
   pub early : is_early walk.progress.standing ≡ true
   pub given : walk.given ≡ 0
+  pub later : first.at ≤ walk.at
+  pub base : walk.progress.base ≡ first.progress.base
+  pub known : walk.progress.known ≡ first.progress.known
 
-pub front_on : (laws : LogLaws) (rules : Rules Tables) (bytes : List ℕ) (old new : Walk) → IsFront rules bytes old → IsMoved rules bytes old new [] → is_early new.progress.standing ≡ true → IsFront rules bytes new
-front_on laws rules bytes old new f m h = record { stands = stands_on laws rules bytes old new [] (omega arith) f.stands m; early = h; given = omega (arith, m.given, f.given) }
+unknown_there : (standing : Standing) (maps : Tables) (changes : List Change) → is_early standing ≡ true → is_base_known (place_of standing maps changes) None ≡ false
+unknown_there Front maps changes h = refl
+unknown_there (Between true) maps changes h = refl
+unknown_there (Between false) maps changes h = absurd (cc)
+unknown_there (Named g size) maps changes h = absurd (cc)
+unknown_there (Inside g size) maps changes h = absurd (cc)
 
-pub front_ends : (laws : LogLaws) (rules : Rules Tables) (bytes : List ℕ) (old new : Walk) → IsFront rules bytes old → IsMoved rules bytes old new [] → is_early new.progress.standing ≡ false → IsWalk rules bytes new false
-front_ends laws rules bytes old new f m h = record {
+-- no set changes before the base is known
+sets_stay : (laws : LogLaws) (rules : Rules Tables) (bytes : List ℕ) (old new : Walk) → IsMoved rules bytes old new [] → is_early new.progress.standing ≡ true →
+    (new.progress.base ≡ old.progress.base) × (new.progress.known ≡ old.progress.known)
+sets_stay laws rules bytes old new m h =
+    (laws.steps rules).early old.at (state_of old.progress) (with_entries [] (state_of new.progress)) (drop old.at bytes) m.next (unknown_there new.progress.standing new.progress.maps new.progress.changes h)
+
+pub front_on : (laws : LogLaws) (rules : Rules Tables) (bytes : List ℕ) (first old new : Walk) → IsFront rules bytes first old → IsMoved rules bytes old new [] → is_early new.progress.standing ≡ true → IsFront rules bytes first new
+front_on laws rules bytes first old new f m h =
+    let k = sets_stay laws rules bytes old new m h in
+    record {
+      stands = stands_on laws rules bytes old new [] (omega arith) f.stands m;
+      early = h;
+      given = omega (arith, m.given, f.given);
+      later = omega (arith, f.later, m.later);
+      base = k.0 ∙ f.base;
+      known = k.1 ∙ f.known;
+    }
+
+pub front_ends : (laws : LogLaws) (rules : Rules Tables) (bytes : List ℕ) (first old new : Walk) → IsFront rules bytes first old → IsMoved rules bytes old new [] → is_early new.progress.standing ≡ false → IsWalk rules bytes new false
+front_ends laws rules bytes first old new f m h = record {
   stands = ◌⊎◌.inr (stands_on laws rules bytes old new [] (omega arith) f.stands m);
   early = λ k. let e : true ≡ false = sym k ∙ h in absurd (cc);
   stuck = λ k. absurd (cc);
@@ -374,9 +402,9 @@ front_ends laws rules bytes old new f m h = record {
 pub front_unmagic : (rules : Rules Tables) (bytes : List ℕ) (walk : Walk) → IsFresh walk ⊎ Stands rules bytes walk → walk.given ≡ 0 → knows_base rules bytes ≡ false → IsWalk rules bytes walk false
 front_unmagic rules bytes walk s g k = record { stands = s; early = λ h. (g, k); stuck = λ h. absurd (cc) }
 
-pub front_stops : (laws : LogLaws) (rules : Rules Tables) (bytes : List ℕ) (walk : Walk) (why : Option Why) → IsFront rules bytes walk → next_state rules walk.at (state_of walk.progress) (drop walk.at bytes) ≡ Err why →
+pub front_stops : (laws : LogLaws) (rules : Rules Tables) (bytes : List ℕ) (first walk : Walk) (why : Option Why) → IsFront rules bytes first walk → next_state rules walk.at (state_of walk.progress) (drop walk.at bytes) ≡ Err why →
     IsWalk rules bytes walk (is_refused walk.progress.standing why)
-front_stops laws rules bytes walk why f h = record {
+front_stops laws rules bytes first walk why f h = record {
   stands = ◌⊎◌.inr f.stands;
   early = λ k. (f.given, ends_early laws rules bytes walk why f.stands h ∙ same walk.progress.standing why f.early);
   stuck = λ k. stuck walk.progress.standing why refl f.early k h;
@@ -399,9 +427,15 @@ front_stops laws rules bytes walk why f h = record {
     stuck (Named g size) why p e r h = absurd (cc)
     stuck (Inside g size) why p e r h = absurd (cc)
 
-pub front_starts : (laws : LogLaws) (rules : Rules Tables) (bytes : List ℕ) (walk : Walk) → IsFresh walk ⊎ Stands rules bytes walk → is_early walk.progress.standing ≡ true → walk.given ≡ 0 → has_magic bytes ≡ true → 4 ≤ length bytes → IsFront rules bytes walk
-front_starts laws rules bytes walk (◌⊎◌.inl f) e g h l = record { stands = fresh_stands laws rules bytes walk f h l; early = e; given = g }
-front_starts laws rules bytes walk (◌⊎◌.inr s) e g h l = record { stands = s; early = e; given = g }
+-- a walk that has taken an event, or is over bytes with the magic, stands
+pub starts : (laws : LogLaws) (rules : Rules Tables) (bytes : List ℕ) (walk : Walk) → IsFresh walk ⊎ Stands rules bytes walk → ((has_magic bytes ≡ true) × (4 ≤ length bytes)) ⊎ (4 < walk.at) → Stands rules bytes walk
+starts laws rules bytes walk (◌⊎◌.inl f) (◌⊎◌.inl m) = fresh_stands laws rules bytes walk f m.0 m.1
+starts laws rules bytes walk (◌⊎◌.inl f) (◌⊎◌.inr l) = absurd (omega (arith, f.at, l))
+starts laws rules bytes walk (◌⊎◌.inr s) k = s
+
+pub front_starts : (laws : LogLaws) (rules : Rules Tables) (bytes : List ℕ) (walk : Walk) → IsFresh walk ⊎ Stands rules bytes walk → is_early walk.progress.standing ≡ true → walk.given ≡ 0 →
+    ((has_magic bytes ≡ true) × (4 ≤ length bytes)) ⊎ (4 < walk.at) → IsFront rules bytes walk walk
+front_starts laws rules bytes walk s e g k = record { stands = starts laws rules bytes walk s k; early = e; given = g; later = omega arith; base = refl; known = refl }
 
 pub front_none : (laws : LogLaws) (rules : Rules Tables) (bytes : List ℕ) (walk : Walk) → IsFresh walk ⊎ Stands rules bytes walk → walk.given ≡ 0 → has_magic bytes ≡ false → IsWalk rules bytes walk false
 front_none laws rules bytes walk s g h = front_unmagic rules bytes walk s g ((laws.steps rules).unread bytes h).1
@@ -412,11 +446,11 @@ front_short laws rules bytes walk s g l = go (has_magic bytes) refl where
   go true h = front_unmagic rules bytes walk s g ((laws.steps rules).short bytes h l).1
   go false h = front_none laws rules bytes walk s g h
 
-pub front_stopped : (laws : LogLaws) (rules : Rules Tables) (bytes : List ℕ) (old new : Walk) (next : Next) (why : Option Why) (refused : Bool) → IsFront rules bytes old → TurnsTo rules bytes old new (Some next) → next ≡ Ended why →
+pub front_stopped : (laws : LogLaws) (rules : Rules Tables) (bytes : List ℕ) (first old new : Walk) (next : Next) (why : Option Why) (refused : Bool) → IsFront rules bytes first old → TurnsTo rules bytes old new (Some next) → next ≡ Ended why →
     refused ≡ is_refused new.progress.standing why → IsWalk rules bytes new refused
-front_stopped laws rules bytes old new next why refused f t is r =
+front_stopped laws rules bytes first old new next why refused f t is r =
     let ended = rw is at t in
-    subst (λ z. IsWalk rules bytes new z) (sym r) (subst (λ z. IsWalk rules bytes z (is_refused z.progress.standing why)) (sym ended.1) (front_stops laws rules bytes old why f ended.0))
+    subst (λ z. IsWalk rules bytes new z) (sym r) (subst (λ z. IsWalk rules bytes z (is_refused z.progress.standing why)) (sym ended.1) (front_stops laws rules bytes first old why f ended.0))
 
 -- ---- what a reader says of the base
 

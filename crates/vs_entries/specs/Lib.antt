@@ -4,3 +4,4 @@ pub mod Laws
 pub mod Reading
 pub mod Pieces
 pub mod Walks
+pub mod Windows

@@ -8,6 +8,8 @@ use Rattle.vs_binlog.specs.Bodies.{Said, query_body}
 use Rattle.vs_binlog.specs.Words.{first_word}
 use Rattle.vs_gtid.specs.declared.Work.TheVariants.{Ddl, Other}
 use Rattle.vs_rows.specs.Tables.{schema_of}
+use Rattle.vs_entries.specs.declared.kind.StatementKind.{StatementKind}
+use Rattle.vs_entries.specs.declared.kind.StatementKind.TheVariants as kind
 use Rattle.vs_log.specs.declared.statement.Statement.{Statement}
 use Rattle.vs_log.specs.declared.statement.Statement.TheVariants.{Begin, Commit, Savepoint, Xa, Single}
 
@@ -69,3 +71,12 @@ statement_by keyspace (Some query) = Ok (said keyspace query.schema query.text (
 
 unfoldable pub statement_of : List ℕ → List ℕ → Result Statement Why
 statement_of keyspace body = statement_by keyspace (query_body body)
+
+-- the statement of this kind, with this text
+abbrev pub told_by : StatementKind → List ℕ → Statement
+told_by kind.Begin text = Begin
+told_by kind.Commit text = Commit
+told_by kind.Savepoint text = Savepoint
+told_by kind.Xa text = Xa
+told_by kind.Ddl text = Single (Ddl text)
+told_by kind.Other text = Single Other

@@ -19,9 +19,8 @@ use Rattle.vs_log.specs.States.{Place as place}
 use Rattle.vs_log.specs.States.{State}
 use Rattle.vs_binlog.specs.Heads.{Event, body_of, kind_of, length_of}
 use Rattle.vs_log.specs.Events.{is_held, last_place}
-use Rattle.vs_log.specs.Table.{Rules, step, with_base, ended, new_gtid, named, first_query, later_query, more_work, told, ◌>>=◌}
+use Rattle.vs_log.specs.Table.{Rules, with_base, ended, new_gtid, named, first_query, later_query, more_work, told, ◌>>=◌}
 use Rattle.vs_entries.specs.Queries.{statement_of}
-use Rattle.vs_log.specs.Meaning.{head_refusal}
 use Rattle.vs_entries.specs.Rules.{base_of, counted_by, or_why, rules_of, why_of}
 use Rattle.vs_entries.specs.declared.progress.Progress.{Progress}
 use Rattle.vs_entries.specs.declared.standing.Standing.{Standing}

@@ -1,16 +1,20 @@
 -- Where a walk over the bytes of a log stands, and how it goes on.
-use Rattle.std.specs.Prelude.{◌≡◌, ◌≤◌, ◌+◌, ◌⊎◌, ℕ, Bool, true, false, List, [], ◌∷◌, length, drop, Option, Some, None, Result, Ok, Err}
+use Rattle.std.specs.Prelude.{◌≡◌, ◌≤◌, ◌<◌, ◌+◌, ◌⊎◌, ℕ, Bool, true, false, List, [], ◌∷◌, length, drop, Option, Some, None, Result, Ok, Err}
 use Rattle.vs_base.specs.declared.Why.{Why}
 use Rattle.vs_gtid.specs.declared.Entry.{Entry}
 use Rattle.vs_binlog.specs.Heads.{length_of}
 use Rattle.vs_rows.specs.Tables.{Tables}
-use Rattle.vs_log.specs.Events.{last_place}
+use Rattle.vs_log.specs.Events.{IsPart, last_place}
 use Rattle.vs_log.specs.Meaning.{at_place, front, knows_base, log_meant}
 use Rattle.vs_log.specs.Productions.{EntryEndsAt, StandsAt}
 use Rattle.vs_log.specs.Steps.{Reaches, next_state}
 use Rattle.vs_log.specs.Table.{Rules}
 use Rattle.vs_entries.specs.Pieces.{IsBehind}
 use Rattle.vs_entries.specs.Reading.{is_early, state_of, with_entries}
+use Rattle.vs_entries.specs.Windows.{Windowed}
+use Rattle.vs_entries.specs.declared.fault.Fault.{Fault}
+use Rattle.vs_entries.specs.declared.took.LogRefusal.{LogRefusal}
+use Rattle.vs_entries.specs.declared.took.LogRefusal.TheVariants.{BadLog, Memory}
 use Rattle.vs_entries.specs.declared.standing.Standing.{Standing}
 use Rattle.vs_entries.specs.declared.standing.Standing.TheVariants.{Front, Between, Named, Inside}
 use Rattle.vs_entries.specs.declared.walk.Next.{Next}
@@ -78,12 +82,46 @@ pub record IsWalk (rules : Rules Tables) (bytes : List ℕ) (walk : Walk) (refus
   pub early : is_early walk.progress.standing ≡ true → (walk.given ≡ 0) × (knows_base rules bytes ≡ refused)
   pub stuck : refused ≡ true → IsStuck rules bytes walk
 
+-- The walk over all bytes that were fed, of which some were let go that the walk has passed.
+pub record IsOver (rules : Rules Tables) (window : Windowed) (walk : Walk) (refused : Bool) : Type 0 where
+  pub is : IsWalk rules window.bytes walk refused
+  pub from : window.from ≤ walk.at
+  pub begun : (window.from ≡ 0) ⊎ (4 < walk.at)
+
+-- the fault that is kept is the log's, and all entries were given
+abbrev pub KeepsFault : Rules Tables → List ℕ → ℕ → Option Fault → Type 0
+KeepsFault rules bytes given None = Unit {0}
+KeepsFault rules bytes given (Some fault) = (given ≡ length (log_meant rules bytes).entries) × ((log_meant rules bytes).fault ≡ Some (fault.offset, fault.why))
+
+-- what a reader keeps of the bytes that it was fed
+pub record IsReader (rules : Rules Tables) (window : Windowed) (walk : Walk) (refused : Bool) (kept : Option Fault) : Type 0 where
+  pub over : IsOver rules window walk refused
+  pub fault : KeepsFault rules window.bytes walk.given kept
+
+-- the fault is told, or that memory ran out, which is kept
+abbrev pub Tells : Fault → Bool → LogRefusal → Bool → Type 0
+Tells fault old (BadLog offset why) new = (offset ≡ fault.offset) × (why ≡ fault.why) × (new ≡ old)
+Tells fault old Memory new = new ≡ true
+
+-- the walk is back where it was
+pub record IsBack (old new : Walk) : Type 0 where
+  pub at : new.at ≡ old.at
+  pub begun : new.begun ≡ old.begun
+  pub given : new.given ≡ old.given
+  pub standing : new.progress.standing ≡ old.progress.standing
+  pub state : state_of new.progress ≡ state_of old.progress
+
+-- where nothing is wrong, less than an event is left
+abbrev pub IsLeft : Option Why → List ℕ → Type 0
+IsLeft None rest = IsPart rest
+IsLeft (Some why) rest = Unit {0}
+
 -- the entry that comes next, or that none does, and what is wrong there
 abbrev pub ReadsTo : Rules Tables → List ℕ → Walk → Walk → Next → Type 0
 ReadsTo rules bytes old new (Gave e) =
     IsBehind old.given (log_meant rules bytes).entries e × StandsAt rules bytes e.gtid new.begun × EntryEndsAt rules bytes old.given new.at × (new.given ≡ old.given + 1)
 ReadsTo rules bytes old new (Ended why) =
-    (length (log_meant rules bytes).entries ≡ old.given) × ((log_meant rules bytes).fault ≡ at_place new.at why) × (new.given ≡ old.given)
+    (length (log_meant rules bytes).entries ≡ old.given) × ((log_meant rules bytes).fault ≡ at_place new.at why) × (new.given ≡ old.given) × IsLeft why (drop new.at bytes)
 
 abbrev pub Reads : {E : Type 0} → Rules Tables → List ℕ → Walk → Walk → Result Next E → Type 0
 Reads rules bytes old new (Ok next) = ReadsTo rules bytes old new next

@@ -1,4 +1,4 @@
-ghost use Rattle.vs_entries.specs.Laws.{LogLaws, NeverReadsJournals};
+ghost use Rattle.vs_entries.specs.Laws.{BoundsParts, LogLaws, NeverReadsJournals};
 
 use vs_log::{law_base, law_changes, law_entries, law_growth, law_meaning, law_steps};
 use vs_rows::Maps;
@@ -23,3 +23,9 @@ pub fn law_no_journals()
 {
     laws();
 }
+
+/// Less than an event is less than 64 MiB, and with a piece of at most 65,536 bytes less than both.
+#[inline(always)]
+pub fn law_part()
+    ensures { BoundsParts }
+{}

@@ -7,7 +7,9 @@
 
 mod body;
 mod event;
+mod fault;
 mod front;
+mod kind;
 mod laws;
 mod progress;
 mod query;
@@ -19,7 +21,8 @@ mod standing;
 mod tests;
 mod took;
 mod walk;
+mod window;
 
-pub use laws::law_no_journals;
+pub use laws::{law_no_journals, law_part};
 pub use reader::Reader;
 pub use took::{LogRefusal, Took};

@@ -9,22 +9,20 @@ ghost use Rattle.vs_log.specs.Table.{bytes_with, ended, line, size, step};
 use crate::body::{format_fault, named_gtid, read_base};
 use crate::event::{body_of, sort_in};
 use crate::front::LAST_PLACE;
+use crate::kind::StatementKind;
 use crate::query::read_statement;
 use crate::refusal::Refusal;
 use crate::row::{read_rows, refused};
 use crate::standing::Standing;
 use std::alloc::Global;
 use std::mem::replace;
-use vs_base::{Change, Gtid, List, OutOfMemory, Why};
+use vs_base::{Change, Gtid, List, OutOfMemory, Text, Why};
 use vs_binlog::{Step, next_event, read_head};
 use vs_gtid::{GtidRefusal, GtidSet};
 use vs_journal::{Entry, Work};
-use vs_log::{Sort, Statement, law_changes};
+use vs_log::{LIMIT, Sort, law_changes};
 use vs_rows::Maps;
 use vs_schema::Schema;
-
-/// The greatest number of bytes of an event, and of the events of an entry together.
-const LIMIT: u64 = 8_388_608;
 
 /// What the events of a log so far have come to, but for the entries that ended.
 #[derive(Debug, Drop)]
@@ -321,8 +319,11 @@ impl Progress {
         requires size { bytes + length_of event.now ≤ limit }
         ensures { Takes result self.old self.new (with_query keyspace.now (state_of self.old) event.now gtid bytes) }
     {
-        match read_statement(alloc, body_of(event), keyspace)? {
-            Statement::Begin => {
+        let Some(told) = read_statement(body_of(event), keyspace) else {
+            return Err(Refusal::Wrong(Why::BadEvent { kind: 2 }));
+        };
+        match told.kind {
+            StatementKind::Begin => {
                 self.maps.clear();
                 self.changes = List::new(alloc);
                 self.standing = Standing::Inside {
@@ -331,10 +332,14 @@ impl Progress {
                 };
                 Ok(None)
             }
-            Statement::Xa => Err(Refusal::Wrong(Why::UnsupportedStatement)),
-            Statement::Commit => Ok(Some(self.end_entry(event, gtid, Work::Other))),
-            Statement::Savepoint => Ok(Some(self.end_entry(event, gtid, Work::Other))),
-            Statement::Single(work) => Ok(Some(self.end_entry(event, gtid, work))),
+            StatementKind::Xa => Err(Refusal::Wrong(Why::UnsupportedStatement)),
+            StatementKind::Ddl => {
+                let work = Work::Ddl(Text::from_bytes(alloc, told.text)?);
+                Ok(Some(self.end_entry(event, gtid, work)))
+            }
+            StatementKind::Commit => Ok(Some(self.end_entry(event, gtid, Work::Other))),
+            StatementKind::Savepoint => Ok(Some(self.end_entry(event, gtid, Work::Other))),
+            StatementKind::Other => Ok(Some(self.end_entry(event, gtid, Work::Other))),
         }
     }
 
@@ -351,21 +356,20 @@ impl Progress {
         requires size { bytes + length_of event.now ≤ limit }
         ensures { Takes result self.old self.new (with_later_query keyspace.now (state_of self.old) event.now gtid bytes self.old.maps self.old.changes) }
     {
-        match read_statement(alloc, body_of(event), keyspace)? {
-            Statement::Commit => Ok(Some(self.end_transaction(alloc, event, gtid))),
-            Statement::Savepoint => {
+        let Some(told) = read_statement(body_of(event), keyspace) else {
+            return Err(Refusal::Wrong(Why::BadEvent { kind: 2 }));
+        };
+        match told.kind {
+            StatementKind::Commit => Ok(Some(self.end_transaction(alloc, event, gtid))),
+            StatementKind::Savepoint => {
                 self.standing = Standing::Inside {
                     gtid,
                     bytes: bytes + read_head(event).length,
                 };
                 Ok(None)
             }
-            Statement::Begin => Err(Refusal::Wrong(Why::NestedBegin)),
-            Statement::Xa => Err(Refusal::Wrong(Why::UnsupportedStatement)),
-            Statement::Single(work) => {
-                drop(work);
-                Err(Refusal::Wrong(Why::UnsupportedStatement))
-            }
+            StatementKind::Begin => Err(Refusal::Wrong(Why::NestedBegin)),
+            _ => Err(Refusal::Wrong(Why::UnsupportedStatement)),
         }
     }
 

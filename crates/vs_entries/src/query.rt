@@ -1,48 +1,55 @@
-ghost use Rattle.std.specs.Prelude.{◌≡◌, IfOk, map};
+ghost use Rattle.std.specs.Prelude.{◌≡◌, Err, MatchOption, Ok, map};
+ghost use Rattle.vs_base.specs.declared.Why.TheVariants.{BadEvent};
 ghost use Rattle.vs_binlog.specs.Words.{first_word, upper};
-ghost use Rattle.vs_entries.specs.Queries.{is_ddl, said, statement_of};
-ghost use Rattle.vs_entries.specs.Reading.{Answers};
+ghost use Rattle.vs_entries.specs.Queries.{is_ddl, said, statement_of, told_by};
 
-use crate::refusal::Refusal;
-use std::alloc::Global;
-use vs_base::{OutOfMemory, Text, Why};
+use crate::kind::StatementKind;
 use vs_binlog::{first_word, is_same_word, read_query};
-use vs_journal::Work;
-use vs_log::Statement;
 use vs_rows::is_schema_of;
 
-/// What the body of a query event says in the log of a shard of the keyspace.
+/// What a query says, and its text.
+#[derive(Clone, Copy)]
+pub struct Told<'a> {
+    pub kind: StatementKind,
+    pub text: &'a [u8],
+}
+
+/// What the body of a query event says in the log of a shard of the keyspace; none where it is against
+/// its layout.
 #[tactic(auto, unfolding(crate::specs::Queries::statement_of))]
-pub fn read_statement(alloc: Global, body: &[u8], keyspace: &[u8]) -> Result<Statement, Refusal>
-    ensures { Answers result (statement_of keyspace.now body.now) }
+pub fn read_statement<'a>(body: &'a [u8], keyspace: &[u8]) -> Option<Told<'a>>
+    ensures { MatchOption result (statement_of keyspace.now body.now ≡ Err (BadEvent 2)) (λ t. statement_of keyspace.now body.now ≡ Ok (told_by t.kind t.text.now)) }
 {
     match read_query(body) {
-        Some(query) => Ok(say(alloc, query.schema, query.text, keyspace)?),
-        None => Err(Refusal::Wrong(Why::BadEvent { kind: 2 })),
+        Some(query) => Some(Told {
+            kind: kind_of(query.schema, query.text, keyspace),
+            text: query.text,
+        }),
+        None => None,
     }
 }
 
-/// What a statement under a default schema says in the log of a shard of the keyspace.
-fn say(alloc: Global, schema: &[u8], text: &[u8], keyspace: &[u8]) -> Result<Statement, OutOfMemory>
-    ensures { IfOk result (λ s. s ≡ said keyspace.now schema.now text.now (first_word text.now)) }
+/// What a statement under a default schema is in the log of a shard of the keyspace.
+fn kind_of(schema: &[u8], text: &[u8], keyspace: &[u8]) -> StatementKind
+    ensures { told_by result text.now ≡ said keyspace.now schema.now text.now (first_word text.now) }
 {
     let word = first_word(text);
     if is_same_word(word, b"BEGIN") {
-        return Ok(Statement::Begin);
+        return StatementKind::Begin;
     }
     if is_same_word(word, b"COMMIT") {
-        return Ok(Statement::Commit);
+        return StatementKind::Commit;
     }
     if is_same_word(word, b"SAVEPOINT") {
-        return Ok(Statement::Savepoint);
+        return StatementKind::Savepoint;
     }
     if is_same_word(word, b"XA") {
-        return Ok(Statement::Xa);
+        return StatementKind::Xa;
     }
     if changes_schemas(word) && is_schema_of(schema, keyspace) {
-        return Ok(Statement::Single(Work::Ddl(Text::from_bytes(alloc, text)?)));
+        return StatementKind::Ddl;
     }
-    Ok(Statement::Single(Work::Other))
+    StatementKind::Other
 }
 
 /// Whether the first word of a statement is one of those that change schemas.

@@ -1,26 +1,31 @@
-ghost use Rattle.std.specs.Prelude.{◌≡◌, [], IfOk, MatchOption, OnErr, OnOk, false, true};
+ghost use Rattle.std.specs.Prelude.{◌≡◌, ◌≤◌, ◌<◌, ◌+◌, ◌-◌, ◌⊎◌, [], IfOk, MatchOption, OnErr, OnOk, false, length, true};
 ghost use Rattle.vs_log.specs.Meaning.{knows_base};
-ghost use Rattle.vs_entries.specs.Pieces.{Gives, fresh, log_fed, rules_fed, with_piece};
+ghost use Rattle.vs_entries.specs.Pieces.{Gives, KeepsFew, fresh, log_fed, rules_fed, with_piece};
 
+use crate::fault::{Fault, tell};
 use crate::laws::laws;
 use crate::took::{LogRefusal, Took};
 use crate::walk::{Next, Walk, begins_as_log};
+use crate::window::Window;
 use std::alloc::Global;
 use std::marker::Model;
 use vs_base::{OutOfMemory, Text, Why};
 use vs_gtid::GtidSet;
 use vs_schema::Schema;
 
-/// Reads the log of a shard, whose bytes come in pieces, from its first byte on. It keeps all bytes.
-#[derive(Debug, Drop)]
+/// Reads the log of a shard, whose bytes come in pieces, from its first byte on. It keeps the bytes
+/// that it hasn't read, and what the entry that is open told.
+#[derive(Drop)]
 pub struct Reader {
     alloc: Global,
     keyspace: Text,
     schema: Schema,
-    fed: Vec<u8>,
+    window: Window,
     walk: Walk,
     /// whether the first event that tells of the base was refused
     refused: bool,
+    /// what is wrong behind the entries, once it was told
+    fault: Option<Fault>,
     /// whether memory ran out as an entry was read
     spent: bool,
 }
@@ -28,13 +33,13 @@ pub struct Reader {
 impl Model for Reader {
     ghost use Rattle.vs_entries.specs.Pieces.{Fed};
     ghost use Rattle.vs_entries.specs.Rules.{rules_of};
-    ghost use Rattle.vs_entries.specs.Walks.{IsWalk};
+    ghost use Rattle.vs_entries.specs.Walks.{IsReader};
 
     ghost Value = { Fed };
 
-    ghost view = { λ r. record { keyspace = r.keyspace; schema = r.schema; bytes = r.fed.items; given = r.walk.given; spent = r.spent } };
+    ghost view = { λ r. record { keyspace = r.keyspace; schema = r.schema; bytes = r.window.bytes; given = r.walk.given; at = r.walk.at; from = r.window.from; spent = r.spent } };
 
-    ghost invariant = { λ r. IsWalk (rules_of r.keyspace r.schema) r.fed.items r.walk r.refused };
+    ghost invariant = { λ r. IsReader (rules_of r.keyspace r.schema) r.window r.walk r.refused r.fault };
 }
 
 impl Reader {
@@ -47,27 +52,31 @@ impl Reader {
             alloc,
             keyspace: Text::from_bytes(alloc, keyspace)?,
             schema: schema.copy(alloc)?,
-            fed: Vec::new(alloc),
+            window: Window::new(alloc),
             walk: Walk::new(alloc),
             refused: false,
+            fault: None,
             spent: false,
         })
     }
 
     /// Takes the next bytes of the log.
     pub fn feed(&mut self, piece: &[u8]) -> Result<(), OutOfMemory>
-        ensures ok { OnOk result (self.new ≡ with_piece self.old piece.now) }
-        ensures err { OnErr result (self.new ≡ self.old) }
+        ensures ok { OnOk result (self.new ≡ with_piece self.old piece.now self.new.at self.new.from) }
+        ensures later { self.old.at ≤ self.new.at }
+        ensures few { OnOk result (KeepsFew self.old self.new.from) }
+        ensures err { OnErr result (self.new ≡ record self.old { from = self.new.from }) }
     {
         laws();
-        let held = self.fed.len();
-        self.fed.extend_from_slice(piece)?;
+        make_room(&mut self.window, self.walk.at)?;
+        let held = self.window.len();
+        self.window.feed(piece)?;
         if self.refused || !self.walk.progress.standing.is_early() {
             return Ok(());
         }
         match self.walk.read_front(
             self.alloc,
-            &self.fed,
+            &self.window,
             self.keyspace.as_bytes(),
             &self.schema,
         ) {
@@ -76,32 +85,47 @@ impl Reader {
                 Ok(())
             }
             Err(error) => {
-                self.fed.truncate(held);
+                self.window.take_back(held);
                 Err(error)
             }
         }
     }
 
+    /// How many bytes it keeps that it has not taken as events.
+    pub fn held(&self) -> usize
+        ensures { result ≡ length self.now.bytes - self.now.at }
+    {
+        let passed = self.walk.at - self.window.from();
+        self.window.len().saturating_sub(passed)
+    }
+
     /// The entry behind those that were given. Once memory ran out here it says so for good.
     pub fn next_entry(&mut self) -> Result<Took, LogRefusal>
-        ensures { Gives self.old result self.new }
+        ensures gives { Gives self.old result self.new }
+        ensures later { self.old.at ≤ self.new.at }
     {
         laws();
         if self.spent {
             return Err(LogRefusal::Memory);
         }
-        if !begins_as_log(&self.fed) {
-            return Err(LogRefusal::BadLog {
-                offset: 0,
-                why: Why::BadMagic,
-            });
+        if let Some(fault) = &self.fault {
+            return Err(tell(self.alloc, fault, &mut self.spent));
         }
-        if self.fed.as_slice().len() < 4 {
-            return Ok(Took::More);
+        if self.window.from() == 0 {
+            let front = self.window.rest(0);
+            if !begins_as_log(front) {
+                return Err(LogRefusal::BadLog {
+                    offset: 0,
+                    why: Why::BadMagic,
+                });
+            }
+            if front.len() < 4 {
+                return Ok(Took::More);
+            }
         }
         match self.walk.read_entry(
             self.alloc,
-            &self.fed,
+            &self.window,
             self.keyspace.as_bytes(),
             &self.schema,
         ) {
@@ -111,10 +135,15 @@ impl Reader {
                 end: self.walk.at as u64,
             }),
             Ok(Next::Ended(None)) => Ok(Took::More),
-            Ok(Next::Ended(Some(why))) => Err(LogRefusal::BadLog {
-                offset: self.walk.at as u64,
-                why,
-            }),
+            Ok(Next::Ended(Some(why))) => {
+                let fault = Fault {
+                    offset: self.walk.at as u64,
+                    why,
+                };
+                let refusal = tell(self.alloc, &fault, &mut self.spent);
+                self.fault = Some(fault);
+                Err(refusal)
+            }
             Err(_) => {
                 self.spent = true;
                 Err(LogRefusal::Memory)
@@ -133,4 +162,19 @@ impl Reader {
         }
         None
     }
+}
+
+/// Lets the bytes go that a walk has passed, if it has passed the magic.
+fn make_room(window: &mut Window, at: usize) -> Result<(), OutOfMemory>
+    requires from { window.old.from ≤ at }
+    requires within { 4 < at → at ≤ length window.old.bytes }
+    ensures bytes { window.new.bytes ≡ window.old.bytes }
+    ensures from { window.new.from ≤ at }
+    ensures begun { at ≤ 4 → window.new.from ≡ window.old.from }
+    ensures few { OnOk result ((at < window.new.from + 65536) ⊎ (at + at ≤ window.new.from + length window.old.bytes)) }
+{
+    if 4 < at {
+        window.let_go(at)?;
+    }
+    Ok(())
 }

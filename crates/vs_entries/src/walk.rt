@@ -1,5 +1,5 @@
 //! A walk over the events of a log's bytes, of which more may come.
-ghost use Rattle.std.specs.Prelude.{◌≡◌, ◌≤◌, ◌⊎◌, IfOk, OnErr, OnOk, length, true};
+ghost use Rattle.std.specs.Prelude.{◌≡◌, ◌≤◌, ◌<◌, ◌⊎◌, IfOk, OnErr, OnOk, length, true};
 ghost use Rattle.vs_log.specs.Events.{last_place};
 ghost use Rattle.vs_log.specs.Meaning.{has_magic};
 
@@ -8,6 +8,7 @@ use crate::laws::laws;
 use crate::progress::Progress;
 use crate::refusal::Refusal;
 use crate::standing::Standing;
+use crate::window::Window;
 use std::alloc::{AllocError, Global};
 use vs_base::{OutOfMemory, Why};
 use vs_journal::Entry;
@@ -39,7 +40,7 @@ pub enum Next {
 
 impl Walk {
     ghost use Rattle.vs_entries.specs.Reading.{is_early};
-    ghost use Rattle.vs_entries.specs.Walks.{IsFresh, IsStuck, IsWalk, Reads, Stands, Turned};
+    ghost use Rattle.vs_entries.specs.Walks.{IsBack, IsFresh, IsStuck, IsWalk, Reads, Stands, Turned};
     ghost use Rattle.vs_entries.specs.Rules.{rules_of};
 
     /// A walk that stands behind the magic.
@@ -58,17 +59,18 @@ impl Walk {
     pub fn take_turn(
         &mut self,
         alloc: Global,
-        bytes: &[u8],
+        window: &Window,
         keyspace: &[u8],
         schema: &Schema,
     ) -> Result<Option<Next>, OutOfMemory>
-        requires place { self.old.at ≤ length bytes.now }
+        requires from { window.now.from ≤ self.old.at }
+        requires place { self.old.at ≤ length window.now.bytes }
         requires early { self.old.at ≤ last_place }
         requires few { self.old.given ≤ self.old.at }
-        ensures { Turned (rules_of keyspace.now schema.now) bytes.now self.old self.new result }
+        ensures { Turned (rules_of keyspace.now schema.now) window.now.bytes self.old self.new result }
     {
         let at = self.at;
-        let rest = &bytes[at..];
+        let rest = window.rest(at);
         let Some(event) = front_event(rest, at) else {
             return Ok(Some(Next::Ended(self.progress.head_fault(rest, at))));
         };
@@ -99,20 +101,22 @@ impl Walk {
     pub fn read_entry(
         &mut self,
         alloc: Global,
-        bytes: &[u8],
+        window: &Window,
         keyspace: &[u8],
         schema: &Schema,
     ) -> Result<Next, OutOfMemory>
-        requires { Stands (rules_of keyspace.now schema.now) bytes.now self.old }
-        ensures stands { Stands (rules_of keyspace.now schema.now) bytes.now self.new }
-        ensures reads { Reads (rules_of keyspace.now schema.now) bytes.now self.old self.new result }
+        requires from { window.now.from ≤ self.old.at }
+        requires stands { Stands (rules_of keyspace.now schema.now) window.now.bytes self.old }
+        ensures stands { Stands (rules_of keyspace.now schema.now) window.now.bytes self.new }
+        ensures reads { Reads (rules_of keyspace.now schema.now) window.now.bytes self.old self.new result }
         ensures early { is_early self.new.progress.standing ≡ true → is_early self.old.progress.standing ≡ true }
         ensures given { is_early self.new.progress.standing ≡ true → self.new.given ≡ self.old.given }
-        ensures stuck { IsStuck (rules_of keyspace.now schema.now) bytes.now self.old → IsStuck (rules_of keyspace.now schema.now) bytes.now self.new }
+        ensures later { self.old.at ≤ self.new.at }
+        ensures stuck { IsStuck (rules_of keyspace.now schema.now) window.now.bytes self.old → IsStuck (rules_of keyspace.now schema.now) window.now.bytes self.new }
     {
         laws();
         'events: loop {
-            match self.take_turn(alloc, bytes, keyspace, schema) {
+            match self.take_turn(alloc, window, keyspace, schema) {
                 Ok(None) => {}
                 Ok(Some(next)) => return Ok(next),
                 Err(error) => return Err(error),
@@ -121,30 +125,39 @@ impl Walk {
     }
 
     /// Goes on up to the first event that tells of the base; whether that one is refused. Where memory
-    /// runs out, the walk begins again.
+    /// runs out, the walk is back where it was.
     pub fn read_front(
         &mut self,
         alloc: Global,
-        bytes: &[u8],
+        window: &Window,
         keyspace: &[u8],
         schema: &Schema,
     ) -> Result<bool, OutOfMemory>
+        requires from { window.now.from ≤ self.old.at }
+        requires begun { (window.now.from ≡ 0) ⊎ (4 < self.old.at) }
         requires early { is_early self.old.progress.standing ≡ true }
         requires given { self.old.given ≡ 0 }
-        requires stands { IsFresh self.old ⊎ Stands (rules_of keyspace.now schema.now) bytes.now self.old }
-        ensures ok { IfOk result (λ refused. IsWalk (rules_of keyspace.now schema.now) bytes.now self.new refused) }
+        requires stands { IsFresh self.old ⊎ Stands (rules_of keyspace.now schema.now) window.now.bytes self.old }
+        ensures ok { IfOk result (λ refused. IsWalk (rules_of keyspace.now schema.now) window.now.bytes self.new refused) }
         ensures given { OnOk result (self.new.given ≡ self.old.given) }
-        ensures err { OnErr result (IsFresh self.new) }
+        ensures later { self.old.at ≤ self.new.at }
+        ensures err { OnErr result (IsBack self.old self.new) }
     {
         laws();
-        if bytes.len() < MAGIC.len() {
-            return Ok(false);
+        if window.from() == 0 {
+            let bytes = window.rest(0);
+            if bytes.len() < MAGIC.len() {
+                return Ok(false);
+            }
+            if !begins_as_log(bytes) {
+                return Ok(false);
+            }
         }
-        if !begins_as_log(bytes) {
-            return Ok(false);
-        }
+        let at = self.at;
+        let begun = self.begun;
+        let standing = self.progress.standing;
         'events: loop {
-            match self.take_turn(alloc, bytes, keyspace, schema) {
+            match self.take_turn(alloc, window, keyspace, schema) {
                 Ok(None) => {
                     if !self.progress.standing.is_early() {
                         return Ok(false);
@@ -153,7 +166,9 @@ impl Walk {
                 Ok(Some(Next::Gave(_))) => unreachable!(),
                 Ok(Some(Next::Ended(why))) => return Ok(self.progress.standing.is_refused(&why)),
                 Err(error) => {
-                    *self = Walk::new(alloc);
+                    self.at = at;
+                    self.begun = begun;
+                    self.progress.standing = standing;
                     return Err(error);
                 }
             }

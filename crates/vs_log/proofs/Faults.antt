@@ -21,10 +21,10 @@ use Rattle.vs_log.proofs.Only.{only}
 use Rattle.vs_log.proofs.Growth.{no_magic, cut_longer, more_entries, whole_log}
 
 -- what a head's tests say of it
-abbrev judged : Bool → Bool → Bool → Bool → ℕ → ℕ → Option Why
+abbrev pub judged : Bool → Bool → Bool → Bool → ℕ → ℕ → Option Why
 judged cut short large past n b = if cut then None else if short then Some (BadLength n) else if large then Some (TooLarge b) else if past then Some (TooLarge n) else None
 
-by_tests : {M : Type 0} (at : ℕ) (place : Place M) (rest : List ℕ) →
+pub by_tests : {M : Type 0} (at : ℕ) (place : Place M) (rest : List ℕ) →
     head_refusal at place rest
     ≡ judged (nat_lt (length rest) 19) (nat_lt (length_of rest) 19) (nat_lt limit (bytes_with place rest)) (nat_lt last_place (at + length_of rest)) (length_of rest) (bytes_with place rest)
 unfolding head_refusal

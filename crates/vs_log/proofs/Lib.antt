@@ -12,6 +12,7 @@ pub mod Growth
 pub mod Longest
 pub mod Faults
 pub mod Bases
+pub mod Parts
 pub mod Names
 pub mod Past
 pub mod Places

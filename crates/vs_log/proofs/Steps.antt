@@ -8,19 +8,20 @@ use Rattle.vs_base.specs.declared.Why.TheVariants.{BadMagic}
 use Rattle.vs_gtid.specs.declared.Entry.{Entry}
 use Rattle.vs_log.specs.States.{State}
 use Rattle.vs_binlog.specs.Heads.{Event, length_of}
-use Rattle.vs_log.specs.Events.{is_held, joined, last_place, magic}
+use Rattle.vs_log.specs.Events.{IsPart, is_held, joined, last_place, magic}
 use Rattle.vs_log.specs.Table.{Rules, step}
 use Rattle.vs_log.specs.Meaning.{front, has_magic, head_refusal, is_base_known, knows_base, log_meant, log_of, log_unread}
 use Rattle.vs_log.specs.Productions.{Begins, EntryEndsAt, IsCut, Refuses}
 use Rattle.vs_log.specs.Steps.{Reaches, next_state, open_gtid, result_with_past, with_past}
 use Rattle.vs_log.specs.Laws.{OpensOrEnds, ReadsInSteps, TellsEntries}
-use Rattle.vs_log.proofs.Bases.{knows_its_base, step_keeps}
+use Rattle.vs_log.proofs.Bases.{knows_its_base, step_keeps, step_leaves}
 use Rattle.vs_log.proofs.Beginnings.{takes_beginnings}
 use Rattle.vs_log.proofs.Cuts.{cut_more, head_taken, held, holds, length_more, magic_front}
 use Rattle.vs_log.proofs.Faults.{refusal_stays}
 use Rattle.vs_log.proofs.Growth.{cut_longer, entries_behind}
 use Rattle.vs_log.proofs.Names.{Opens, step_opens}
 use Rattle.vs_log.proofs.Only.{magic_there, only}
+use Rattle.vs_log.proofs.Parts.{is_part}
 use Rattle.vs_log.proofs.Past.{step_behind}
 
 -- ---- one turn
@@ -178,6 +179,12 @@ short rules bytes h l = (
 known : {M : Type 0} (rules : Rules M) (at : ℕ) (s next : State M) (rest : List ℕ) → is_base_known s.place None ≡ true → next_state rules at s rest ≡ Ok next → is_base_known next.place None ≡ true
 known rules at s next rest k h = (step_keeps rules s _ next k (took rules at s rest next h).taken).0
 
+part_left : {M : Type 0} (rules : Rules M) (at : ℕ) (s : State M) (rest : List ℕ) → next_state rules at s rest ≡ Err None → IsPart rest
+part_left rules at s rest h = let r = refuses rules at s rest None h in is_part at s.place rest r.0 r.1
+
+early : {M : Type 0} (rules : Rules M) (at : ℕ) (s next : State M) (rest : List ℕ) → next_state rules at s rest ≡ Ok next → is_base_known next.place None ≡ false → (next.base ≡ s.base) × (next.known ≡ s.known)
+early rules at s next rest h = step_leaves rules s _ next (took rules at s rest next h).taken
+
 pub reads_in_steps : {M : Type 0} (rules : Rules M) → ReadsInSteps rules
 reads_in_steps rules = record {
   starts = starts rules;
@@ -191,6 +198,8 @@ reads_in_steps rules = record {
   short = short rules;
   longer = longer rules;
   refused = stays_refused rules;
+  part = part_left rules;
+  early = early rules;
   past = past_turn rules;
 }
 

@@ -1,7 +1,8 @@
 -- What the events of a log are to it, by their heads; and when an event is whole.
 use Rattle.vs_log.specs.declared.event.Sort.{Sort}
 use Rattle.vs_log.specs.declared.event.Sort.TheVariants.{AnonymousEvent, PassedOver, FormatEvent, PreviousEvent, GtidEvent, QueryEvent, XidEvent, MapEvent, RowsEvent, ForeignEvent}
-use Rattle.std.specs.Prelude.{◌≡◌, ◌≤◌, ℕ, ◌+◌, ◌/◌, ◌%◌, ◌==◌, Bool, ◌&&◌, ◌||◌, not, nat_le, if◌then◌else◌, List, [], ◌∷◌, ◌++◌, length}
+use Rattle.std.specs.Prelude.{◌≡◌, ◌≤◌, ◌<◌, ◌⊎◌, ℕ, ◌+◌, ◌/◌, ◌%◌, ◌==◌, Bool, ◌&&◌, ◌||◌, not, nat_le, if◌then◌else◌, List, [], ◌∷◌, ◌++◌, length}
+use Rattle.vs_base.specs.Limits.{most_entry}
 use Rattle.vs_binlog.specs.Heads.{Event, kind_of, flags_of, length_of}
 
 -- the kinds that have a line of their own
@@ -44,7 +45,7 @@ joined (e ∷ es) = e ++ joined es
 
 -- the greatest number of bytes of an event, and of the events of an entry together
 abbrev pub limit : ℕ
-limit = 8388608
+limit = most_entry
 
 -- the place of a log by which each of its events ends
 abbrev pub last_place : ℕ
@@ -53,3 +54,7 @@ last_place = 4611686018427387904
 -- whether the bytes begin with a whole event that ends, where they stand in the log, by the last place
 unfoldable pub is_held : ℕ → List ℕ → Bool
 is_held at bytes = nat_le 19 (length bytes) && (nat_le 19 (length_of bytes) && (nat_le (length_of bytes) (length bytes) && nat_le (at + length_of bytes) last_place))
+
+-- less than an event: not all of a head, or a head, and fewer bytes than it names, within the limit
+abbrev pub IsPart : List ℕ → Type 0
+IsPart rest = (length rest < 19) ⊎ ((length rest < length_of rest) × (length_of rest ≤ limit))

@@ -14,7 +14,7 @@ use Rattle.vs_log.specs.States.{State}
 use Rattle.vs_log.specs.States.Counted.{Changed}
 use Rattle.vs_binlog.specs.Heads.{Event, length_of}
 use Rattle.vs_log.specs.Table.{Rules, more_work, step}
-use Rattle.vs_log.specs.Events.{joined, last_place}
+use Rattle.vs_log.specs.Events.{IsPart, joined, last_place}
 use Rattle.vs_log.specs.Meaning.{front, has_magic, is_base_known, knows_base, log_meant, log_of, log_unread}
 use Rattle.vs_log.specs.Productions.{Begins, EntryEndsAt, IsCut, IsWholeLog, Means, Refuses, StandsAt}
 use Rattle.vs_log.specs.Steps.{Reaches, next_state, open_gtid, result_with_past, with_past}
@@ -55,6 +55,10 @@ pub record KnowsItsBase {M : Type 0} (rules : Rules M) (bytes : List ℕ) : Type
   pub none : has_magic bytes ≡ false → knows_base rules bytes ≡ false
   -- where it isn't known, the log has none
   pub unknown : knows_base rules bytes ≡ false → (log_meant rules bytes).base ≡ []
+  -- a base that is known stays, whatever bytes come
+  pub stays : (more : List ℕ) → knows_base rules bytes ≡ true → (knows_base rules (bytes ++ more) ≡ true) × ((log_meant rules (bytes ++ more)).base ≡ (log_meant rules bytes).base)
+  -- where the log has an entry, its base is known
+  pub entries : 1 ≤ length (log_meant rules bytes).entries → knows_base rules bytes ≡ true
 
 -- no front of the bytes is a whole log
 abbrev pub HasNone : {M : Type 0} → Rules M → List ℕ → Type 0
@@ -118,6 +122,10 @@ pub record ReadsInSteps {M : Type 0} (rules : Rules M) : Type 0 where
   -- with more bytes it is reached as before, and what is refused stays so
   pub longer : (bytes more : List ℕ) (at : ℕ) (s : State M) → Reaches rules bytes at s → Reaches rules (bytes ++ more) at s
   pub refused : (at : ℕ) (s : State M) (rest more : List ℕ) (why : Why) → next_state rules at s rest ≡ Err (Some why) → next_state rules at s (rest ++ more) ≡ Err (Some why)
+  -- where nothing is wrong and no event is taken, less than one is left
+  pub part : (at : ℕ) (s : State M) (rest : List ℕ) → next_state rules at s rest ≡ Err None → IsPart rest
+  -- an event behind which the base isn't known leaves the base and the GTIDs
+  pub early : (at : ℕ) (s next : State M) (rest : List ℕ) → next_state rules at s rest ≡ Ok next → is_base_known next.place None ≡ false → (next.base ≡ s.base) × (next.known ≡ s.known)
   -- what an event does doesn't hang on the entries before it
   pub past : (at : ℕ) (s : State M) (rest : List ℕ) (past : List Entry) → next_state rules at (with_past past s) rest ≡ result_with_past past (next_state rules at s rest)
 

@@ -1,3 +1,6 @@
+/// The greatest number of bytes of an event, and of the events of an entry together.
+pub const LIMIT: u64 = 67_108_864;
+
 /// What an event is to a log, by its kind and its flags.
 #[derive(Debug, Clone, Copy, PartialEq, Eq)]
 pub enum Sort {

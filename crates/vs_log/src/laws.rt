@@ -31,7 +31,8 @@ pub fn law_growth<M>()
     ensures { AlwaysGrows M }
 {}
 
-/// The base is known where the beginning of a log that the bytes are tells it, and is then the log's.
+/// The base is known where the beginning of a log that the bytes are tells it, and is then the log's,
+/// whatever bytes come. Where the log has an entry, it is known.
 #[tactic(auto, using(crate::proofs::Bases::knows_its_base))]
 #[inline(always)]
 pub fn law_base<M>()

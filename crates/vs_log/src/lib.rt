@@ -8,7 +8,7 @@ mod statement;
 #[cfg(test)]
 mod tests;
 
-pub use event::Sort;
+pub use event::{LIMIT, Sort};
 pub use laws::{
     law_base, law_beginnings, law_changes, law_distinct, law_entries, law_growth, law_longest,
     law_meaning, law_places, law_steps,

@@ -6,7 +6,7 @@ use Rattle.vs_command.proofs.fetch.read_feed.Goals as goal
 
 pub loop-preserved-in-Ok-feed : goal.loop-preserved-in-Ok-feed
 loop-preserved-in-Ok-feed g c = record {
-  held = subst (λ r. HasGiven r c.loop.entries) (sym c.in-Ok-feed.ensures.ok) (HasGiven-fed c.law_growth.ensures c.loop.reader _ c.loop.entries c.loop.invariant.held);
+  held = subst (λ r. HasGiven r c.loop.entries) (sym c.in-Ok-feed.ensures.ok) (HasGiven-fed c.law_growth.ensures c.loop.reader _ _ _ c.loop.entries c.loop.invariant.held);
   keyspace = ap (λ (r : Fed). r.keyspace) c.in-Ok-feed.ensures.ok ∙ c.loop.invariant.keyspace;
   schema = ap (λ (r : Fed). r.schema) c.in-Ok-feed.ensures.ok ∙ c.loop.invariant.schema;
   given = given_next _ _ _ _ c.in-Ok-Bytes.field-0 c.in-Ok-Bytes.n _ c.loop.reader.bytes _ c.loop.invariant.all c.loop.invariant.given c.in-Ok-Bytes.ensures.gives c.in-Ok-Bytes.field-0-is (ap (λ (r : Fed). r.bytes) c.in-Ok-feed.ensures.ok);

@@ -9,7 +9,7 @@ use Rattle.vs_entries.proofs.reader.Reader.base.Goals as goal
 pub returns-then-self : goal.returns-then-self
 returns-then-self c =
     subst (λ (f : Fed). (knows_base (rules_fed f) f.bytes ≡ true) × (c.self.inside.walk.progress.base ≡ (log_fed f).base)) c.self.view_is
-    (knows c.laws.ensures _ _ _ c.self.inside.refused c.self.invariant (elim c.then-self.branch [
+    (knows c.laws.ensures _ _ _ c.self.inside.refused c.self.invariant.over.is (elim c.then-self.branch [
       | then-self-via-then-self w ↦ ◌⊎◌.inl w.if-self.true
       | then-self-via-else-self+then-not-is_early w ↦ ◌⊎◌.inr (sym w.if-not-is_early.ensures)
     ]))
@@ -17,4 +17,4 @@ returns-then-self c =
 pub returns : goal.returns
 returns c =
     subst (λ (f : Fed). (knows_base (rules_fed f) f.bytes ≡ false) × ((log_fed f).base ≡ [])) c.self.view_is
-    (knows_not c.laws.ensures _ _ _ c.self.inside.refused c.self.invariant c.if-self.false (sym c.if-not-is_early.ensures))
+    (knows_not c.laws.ensures _ _ _ c.self.inside.refused c.self.invariant.over.is c.if-self.false (sym c.if-not-is_early.ensures))
