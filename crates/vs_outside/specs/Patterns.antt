@@ -1,19 +1,24 @@
--- Which texts are patterns, as the crate of regular expressions has them over bytes.
-use Rattle.std.specs.Prelude.{ℕ, ◌⊎◌, false, List}
-use Rattle.std.specs.Str.{IsUtf8}
-use Rattle.regex.specs.Patterns.{Config, default_config}
-use Rattle.regex.specs.Sources.{IsRefusal}
-use Rattle.regex.specs.Failures.{IsRightKind}
-use Rattle.regex.specs.declared.error.Error.{Error}
-use Rattle.regex.specs.declared.error.Error.TheVariants as error
+-- Which texts are patterns, as the crate of regular expressions reads them over bytes.
+use Rattle.std.specs.Prelude.{◌≡◌, ℕ, Bool, true, false, ◌&&◌, nat_le, chars, List, Option, Some, None}
+use Rattle.std.specs.Str.{is_utf8}
+use Rattle.regex.specs.Patterns.{Config, Re, default_config}
+use Rattle.regex_syntax.specs.Grammar.{Names, read}
+use Rattle.regex_syntax.specs.Brackets.{Nested}
 
 abbrev pub byte_config : Config
 byte_config = record default_config { utf8 = false }
 
--- an error of syntax, by the grammar: the text is no pattern, or is nested too deep
-abbrev pub IsRefused : List ℕ → Type 0
-IsRefused text = (e : _) × IsRefusal byte_config text (error.Syntax e) × IsRightKind byte_config text (error.Syntax e)
+-- the grammar reads something, and that is nested no deeper than the limit
+abbrev pub is_read_within : ℕ → Option (Nested Re × Names) → Bool
+is_read_within limit None = false
+is_read_within limit (Some (found, names)) = nat_le found.depth limit
 
--- the text is no pattern, or is nested too deep
+-- the text is a pattern
+unfoldable pub is_pattern_text : List ℕ → Bool
+is_pattern_text text = is_utf8 text && is_read_within 250 (read byte_config (chars text))
+
+abbrev pub IsPattern : List ℕ → Type 0
+IsPattern text = is_pattern_text text ≡ true
+
 abbrev pub IsNoPattern : List ℕ → Type 0
-IsNoPattern text = ¬ (IsUtf8 text) ⊎ IsRefused text
+IsNoPattern text = is_pattern_text text ≡ false

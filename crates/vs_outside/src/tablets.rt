@@ -52,6 +52,7 @@ pub trait Tablets {
       IsTrue,
       IfOk,
       IfSome,
+      OnOk,
       MatchOption,
       MatchResult,
     };
@@ -75,7 +76,7 @@ pub trait Tablets {
       raised,
     };
     ghost use Rattle.vs_outside.specs.Feeds.{times};
-    ghost use Rattle.vs_outside.specs.Patterns.{IsNoPattern, byte_config};
+    ghost use Rattle.vs_outside.specs.Patterns.{IsNoPattern, IsPattern, byte_config};
     ghost use Rattle.vs_outside.specs.declared.built_patterns.PatternEnd.TheVariants.{Refused, Syntax};
     ghost use Rattle.regex.specs.Bytes.{IsReadFromSource, regex_config, regex_source};
 
@@ -194,8 +195,9 @@ pub trait Tablets {
         ensures source { IfOk result (λ r. regex_source r ≡ text.now) }
         ensures read { IfOk result IsReadFromSource }
         ensures config { IfOk result (λ r. regex_config r ≡ byte_config) }
+        ensures lawful { OnOk result (IsPattern text.now) }
         ensures syntax { result ≡ Err Syntax → IsNoPattern text.now }
-        ensures refused { result ≡ Err Refused → Rose (pattern_faults self.old) (pattern_faults self.new) }
+        ensures refused { result ≡ Err Refused → IsPattern text.now × Rose (pattern_faults self.old) (pattern_faults self.new) }
         ensures later { pattern_faults self.old ≤ pattern_faults self.new }
         ensures steady { ¬ (result ≡ Err Refused) → pattern_faults self.new ≡ pattern_faults self.old }
         ensures cluster { cluster self.new ≡ cluster self.old }
