@@ -4,13 +4,14 @@ use crate::FileFeed;
 use crate::again::read_rest;
 use crate::listing::{end_of, names_in};
 use crate::path::file_path;
+use regex::bytes::Regex;
 use std::alloc::Global;
 use std::fs;
 use std::fs::File;
 use std::io::ErrorKind;
 use std::rt::Files;
 use vs_base::{OutOfMemory, ShardName, Text};
-use vs_outside::{AskEnd, Feed, Opened, Openings, Tablets};
+use vs_outside::{AskEnd, BuiltPatterns, Feed, Opened, Openings, PatternEnd, Tablets};
 
 /// The logs of a folder. It tells no cluster, since files may change at any time.
 #[derive(Drop)]
@@ -21,6 +22,7 @@ pub struct FolderTablets<R: Files<File = File> + Drop> {
     /// The names whose fetch failed, each as often as it did.
     failed: Vec<ShardName>,
     list_faults: u64,
+    patterns: BuiltPatterns,
 }
 
 impl<R: Files<File = File> + Drop> FolderTablets<R> {
@@ -32,6 +34,7 @@ impl<R: Files<File = File> + Drop> FolderTablets<R> {
             openings: Openings::new(alloc),
             failed: Vec::new(alloc),
             list_faults: 0,
+            patterns: BuiltPatterns::new(),
         }
     }
 }
@@ -116,6 +119,8 @@ impl<R: Files<File = File> + Alloc + Clone + Drop> Tablets for FolderTablets<R> 
 
     ghost list_faults = { λ t. t.list_faults };
 
+    ghost pattern_faults = { λ t. t.patterns.refused };
+
     ghost folder = { λ t. string_bytes t.folder };
 
     ghost sound = { λ _. false };
@@ -159,5 +164,8 @@ impl<R: Files<File = File> + Alloc + Clone + Drop> Tablets for FolderTablets<R> 
 
     fn give_back(&mut self, name: &ShardName, feed: FileFeed) {
         self.openings.add(name, feed.faults(), 0);
+    }
+    fn pattern(&mut self, alloc: Global, text: &[u8]) -> Result<Regex, PatternEnd> {
+        self.patterns.pattern(alloc, text)
     }
 }

@@ -6,3 +6,4 @@ pub mod MemoryLemmas
 pub mod OpeningLemmas
 pub mod ListingLemmas
 pub mod PlaceLemmas
+pub mod PatternLemmas

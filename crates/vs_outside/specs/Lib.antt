@@ -8,3 +8,4 @@ pub mod Times
 pub mod Scripts
 pub mod Memory
 pub mod Openings
+pub mod Patterns

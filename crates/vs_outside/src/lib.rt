@@ -2,6 +2,7 @@
 //! traits with their meanings; and each of them in memory.
 #![tactic(auto)]
 
+mod built_patterns;
 mod clock;
 mod feed;
 mod laws;
@@ -22,6 +23,7 @@ mod tablets;
 mod tests;
 mod writing;
 
+pub use built_patterns::{BuiltPatterns, PatternEnd};
 pub use clock::Clock;
 pub use feed::{Feed, Got};
 pub use laws::law_feeds;

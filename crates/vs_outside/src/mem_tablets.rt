@@ -4,7 +4,8 @@ ghost use Rattle.vs_outside.specs.Memory.{HaveNoFaults, is_quiet};
 use crate::mem_shard::Held;
 use crate::mem_shards::{advance, names_of, open_held};
 use crate::scripted::{fails_at, push_copy};
-use crate::{AskEnd, FeedAnswer, MemFeed, Opened, Openings, Tablets};
+use crate::{AskEnd, BuiltPatterns, FeedAnswer, MemFeed, Opened, Openings, PatternEnd, Tablets};
+use regex::bytes::Regex;
 use std::alloc::Global;
 use vs_base::{OutOfMemory, ShardName, Text};
 
@@ -22,6 +23,7 @@ pub struct MemTablets {
     lists: Vec<bool>,
     next_list: usize,
     list_faults: u64,
+    patterns: BuiltPatterns,
     ghost quiet: { is_quiet held.items fetches.items lists.items ≡ true → HaveNoFaults openings.openings.items failed.items list_faults },
 }
 
@@ -55,6 +57,7 @@ impl MemTablets {
         ensures waits { IfOk result (λ t. (n : ShardName) → ⟦<MemTablets as Tablets>⟧.waits t n ≡ 0) }
         ensures open_faults { IfOk result (λ t. (n : ShardName) → ⟦<MemTablets as Tablets>⟧.open_faults t n ≡ 0) }
         ensures list_faults { IfOk result (λ t. ⟦<MemTablets as Tablets>⟧.list_faults t ≡ 0) }
+        ensures pattern_faults { IfOk result (λ t. ⟦<MemTablets as Tablets>⟧.pattern_faults t ≡ 0) }
         ensures folder { IfOk result (λ t. ⟦<MemTablets as Tablets>⟧.folder t ≡ []) }
         ensures sound { IfOk result (λ t. ⟦<MemTablets as Tablets>⟧.sound t ≡ true) }
     {
@@ -69,6 +72,7 @@ impl MemTablets {
             lists: Vec::new(alloc),
             next_list: 0,
             list_faults: 0,
+            patterns: BuiltPatterns::new(),
         })
     }
 
@@ -92,6 +96,7 @@ impl MemTablets {
         ensures waits { KeepsCounts (⟦<MemTablets as Tablets>⟧.waits self.old) (⟦<MemTablets as Tablets>⟧.waits self.new) }
         ensures open_faults { KeepsCounts (⟦<MemTablets as Tablets>⟧.open_faults self.old) (⟦<MemTablets as Tablets>⟧.open_faults self.new) }
         ensures list_faults { ⟦<MemTablets as Tablets>⟧.list_faults self.new ≡ ⟦<MemTablets as Tablets>⟧.list_faults self.old }
+        ensures pattern_faults { ⟦<MemTablets as Tablets>⟧.pattern_faults self.new ≡ ⟦<MemTablets as Tablets>⟧.pattern_faults self.old }
         ensures folder { ⟦<MemTablets as Tablets>⟧.folder self.new ≡ ⟦<MemTablets as Tablets>⟧.folder self.old }
     {
         let alloc = self.alloc;
@@ -123,6 +128,7 @@ impl MemTablets {
         ensures waits { KeepsCounts (⟦<MemTablets as Tablets>⟧.waits self.old) (⟦<MemTablets as Tablets>⟧.waits self.new) }
         ensures open_faults { KeepsCounts (⟦<MemTablets as Tablets>⟧.open_faults self.old) (⟦<MemTablets as Tablets>⟧.open_faults self.new) }
         ensures list_faults { ⟦<MemTablets as Tablets>⟧.list_faults self.new ≡ ⟦<MemTablets as Tablets>⟧.list_faults self.old }
+        ensures pattern_faults { ⟦<MemTablets as Tablets>⟧.pattern_faults self.new ≡ ⟦<MemTablets as Tablets>⟧.pattern_faults self.old }
         ensures folder { ⟦<MemTablets as Tablets>⟧.folder self.new ≡ ⟦<MemTablets as Tablets>⟧.folder self.old }
     {
         let before = self.fetches.len();
@@ -155,6 +161,8 @@ impl Tablets for MemTablets {
     ghost open_faults = { λ t. failures_of t.failed.items };
 
     ghost list_faults = { λ t. t.list_faults };
+
+    ghost pattern_faults = { λ t. t.patterns.refused };
 
     ghost folder = { λ t. string_bytes t.folder };
 
@@ -205,5 +213,9 @@ impl Tablets for MemTablets {
 
     fn give_back(&mut self, name: &ShardName, feed: MemFeed) {
         self.openings.add(name, feed.faults(), feed.waits());
+    }
+
+    fn pattern(&mut self, alloc: Global, text: &[u8]) -> Result<Regex, PatternEnd> {
+        self.patterns.pattern(alloc, text)
     }
 }

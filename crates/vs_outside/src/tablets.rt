@@ -1,6 +1,7 @@
 ghost use Rattle.std.specs.Prelude.{◌≡◌};
 
-use crate::Feed;
+use crate::{Feed, PatternEnd};
+use regex::bytes::Regex;
 use std::alloc::Global;
 use thiserror::Error;
 use vs_base::{OutOfMemory, ShardName, Text};
@@ -51,6 +52,7 @@ pub trait Tablets {
       IsTrue,
       IfOk,
       IfSome,
+      OnOk,
       MatchOption,
       MatchResult,
     };
@@ -74,6 +76,9 @@ pub trait Tablets {
       raised,
     };
     ghost use Rattle.vs_outside.specs.Feeds.{times};
+    ghost use Rattle.vs_outside.specs.Patterns.{IsNoPattern, IsPattern, byte_config};
+    ghost use Rattle.vs_outside.specs.declared.built_patterns.PatternEnd.TheVariants.{Refused, Syntax};
+    ghost use Rattle.regex.specs.Bytes.{IsReadFromSource, regex_config, regex_source};
 
     type Feed: Feed + Send + 'static;
 
@@ -98,10 +103,13 @@ pub trait Tablets {
     /// How many listings failed.
     ghost list_faults: { Self → ℕ };
 
+    /// How many patterns were refused for another reason than their text.
+    ghost pattern_faults: { Self → ℕ };
+
     /// The folder that was named last.
     ghost folder: { Self → List ℕ };
 
-    /// Whether no call, and no read of a feed, can fail but for want of memory.
+    /// Whether no call but `pattern`, and no read of a feed, can fail but for want of memory.
     ghost sound: { Self → Bool };
 
     /// Names the folder that holds the logs. A told cluster stays.
@@ -114,6 +122,7 @@ pub trait Tablets {
         ensures waits { KeepsCounts (waits self.old) (waits self.new) }
         ensures open_faults { KeepsCounts (open_faults self.old) (open_faults self.new) }
         ensures list_faults { list_faults self.new ≡ list_faults self.old }
+        ensures pattern_faults { pattern_faults self.new ≡ pattern_faults self.old }
         ensures sound { sound self.new ≡ sound self.old };
 
     /// The shards of a keyspace, ascending; or none where the cluster has none.
@@ -130,6 +139,7 @@ pub trait Tablets {
         ensures waits { KeepsCounts (waits self.old) (waits self.new) }
         ensures open_faults { KeepsCounts (open_faults self.old) (open_faults self.new) }
         ensures folder { folder self.new ≡ folder self.old }
+        ensures pattern_faults { pattern_faults self.new ≡ pattern_faults self.old }
         ensures sound { sound self.new ≡ sound self.old };
 
     /// Opens the log of a shard at its front; or none where the cluster lacks the shard.
@@ -155,6 +165,7 @@ pub trait Tablets {
         ensures waits { KeepsCounts (waits self.old) (waits self.new) }
         ensures list_faults { list_faults self.new ≡ list_faults self.old }
         ensures folder { folder self.new ≡ folder self.old }
+        ensures pattern_faults { pattern_faults self.new ≡ pattern_faults self.old }
         ensures sound { sound self.new ≡ sound self.old };
 
     /// Counts a feed that is given back, and adds its counts to those of its name. It takes no
@@ -173,6 +184,27 @@ pub trait Tablets {
         ensures other_waits { KeepsOthers name.now (waits self.old) (waits self.new) }
         ensures cluster { cluster self.new ≡ cluster self.old }
         ensures opened { opened self.new ≡ opened self.old }
+        ensures open_faults { KeepsCounts (open_faults self.old) (open_faults self.new) }
+        ensures list_faults { list_faults self.new ≡ list_faults self.old }
+        ensures folder { folder self.new ≡ folder self.old }
+        ensures pattern_faults { pattern_faults self.new ≡ pattern_faults self.old }
+        ensures sound { sound self.new ≡ sound self.old };
+
+    /// The pattern of a text, over bytes.
+    fn pattern(&mut self, alloc: Global, text: &[u8]) -> Result<Regex, PatternEnd>
+        ensures source { IfOk result (λ r. regex_source r ≡ text.now) }
+        ensures read { IfOk result IsReadFromSource }
+        ensures config { IfOk result (λ r. regex_config r ≡ byte_config) }
+        ensures lawful { OnOk result (IsPattern text.now) }
+        ensures syntax { result ≡ Err Syntax → IsNoPattern text.now }
+        ensures refused { result ≡ Err Refused → IsPattern text.now × Rose (pattern_faults self.old) (pattern_faults self.new) }
+        ensures later { pattern_faults self.old ≤ pattern_faults self.new }
+        ensures steady { ¬ (result ≡ Err Refused) → pattern_faults self.new ≡ pattern_faults self.old }
+        ensures cluster { cluster self.new ≡ cluster self.old }
+        ensures opened { opened self.new ≡ opened self.old }
+        ensures returned { KeepsCounts (returned self.old) (returned self.new) }
+        ensures faults { KeepsCounts (faults self.old) (faults self.new) }
+        ensures waits { KeepsCounts (waits self.old) (waits self.new) }
         ensures open_faults { KeepsCounts (open_faults self.old) (open_faults self.new) }
         ensures list_faults { list_faults self.new ≡ list_faults self.old }
         ensures folder { folder self.new ≡ folder self.old }

@@ -1,33 +1,39 @@
 use crate::{
-    AskEnd, Clock, Failed, Feed, FeedAnswer, Got, MemClock, MemFeed, MemSink, MemSource,
-    MemTablets, Opened, Sink, SinkAnswer, Source, Tablets, law_feeds, names_keyspace, names_shard,
-    write_all,
+    BuiltPatterns, Clock, Failed, Feed, FeedAnswer, Got, MemClock, MemFeed, MemSink, MemSource,
+    MemTablets, PatternEnd, Sink, SinkAnswer, Source, Tablets, law_feeds, names_keyspace,
+    names_shard, write_all,
 };
 use std::alloc::{AllocError, Global};
 use vs_base::{ShardName, Text};
 
+/// Names, and whether they are those of a keyspace and of a shard.
+const NAMES: [(&[u8], bool, bool); 5] = [
+    (b"", false, false),
+    (b"-80", true, true),
+    (b"a.b", false, true),
+    (b"..", false, false),
+    (b"a/b", false, false),
+];
+
+/// Texts that are no patterns.
+const NO_PATTERNS: [&[u8]; 3] = [b"(", b"a**{", b"\xff"];
+
 #[test]
-fn a_source_fails_by_its_script_and_ends(rt: HostRuntime) -> Result<(), AllocError> {
-    let mut source = MemSource::new(rt.alloc(), b"abc", &[false, true])?;
-    let mut buf = [0u8; 2];
-    assert_eq!(rt; source.read(&mut buf), Ok(2));
-    assert_eq!(rt; buf, *b"ab");
+fn a_source_fails_by_its_script(rt: HostRuntime) -> Result<(), AllocError> {
+    let mut source = MemSource::new(rt.alloc(), b"ab", &[true])?;
+    let mut buf = [0u8; 1];
     assert_eq!(rt; source.read(&mut buf), Err(Failed));
     assert_eq!(rt; source.read(&mut buf), Ok(1));
-    assert_eq!(rt; buf[0], b'c');
-    assert_eq!(rt; source.read(&mut buf), Ok(0));
+    assert_eq!(rt; buf, *b"a");
     Ok(())
 }
 
 #[test]
 fn a_sink_takes_by_its_script(rt: HostRuntime) -> Result<(), AllocError> {
     let mut sink = MemSink::new(rt.alloc(), &[SinkAnswer::Take(0), SinkAnswer::Take(3)])?;
-    assert_eq!(rt; sink.write(b"abcde"), Ok(1));
-    assert_eq!(rt; write_all(&mut sink, b"bcdefg"), Ok(()));
-    assert_eq!(rt; sink.sent(), b"abcdefg".as_slice());
-    let mut sink = MemSink::new(rt.alloc(), &[SinkAnswer::Take(5), SinkAnswer::Fail])?;
-    assert_eq!(rt; write_all(&mut sink, b"abcdefg"), Err(Failed));
-    assert_eq!(rt; sink.sent(), b"abcde".as_slice());
+    assert_eq!(rt; sink.write(b"abc"), Ok(1));
+    assert_eq!(rt; write_all(&mut sink, b"bcdef"), Ok(()));
+    assert_eq!(rt; sink.sent(), b"abcdef".as_slice());
     Ok(())
 }
 
@@ -35,126 +41,93 @@ fn a_sink_takes_by_its_script(rt: HostRuntime) -> Result<(), AllocError> {
 fn a_clock_repeats_its_last_time(rt: HostRuntime) -> Result<(), AllocError> {
     let mut clock = MemClock::new(rt.alloc(), &[5, 7])?;
     assert_eq!(rt; (clock.now(), clock.now(), clock.now()), (5, 7, 7));
-    let mut clock = MemClock::new(rt.alloc(), &[])?;
-    assert_eq!(rt; clock.now(), 0);
     Ok(())
 }
 
-fn name_of(alloc: Global, keyspace: &[u8], shard: &[u8]) -> Result<ShardName, AllocError> {
-    let keyspace = Text::from_bytes(alloc, keyspace)?;
-    ShardName::new(keyspace, Text::from_bytes(alloc, shard)?).ok_or(AllocError)
+#[test]
+fn names_have_their_letters(rt: HostRuntime) {
+    for (text, keyspace, shard) in NAMES {
+        assert_eq!(rt; names_keyspace(text), keyspace);
+        assert_eq!(rt; names_shard(text), shard);
+    }
+}
+
+fn name_of(alloc: Global) -> Result<ShardName, AllocError> {
+    let keyspace = Text::from_bytes(alloc, b"c")?;
+    ShardName::new(keyspace, Text::from_bytes(alloc, b"0")?).ok_or(AllocError)
+}
+
+/// A feed that waits once, fails once and has two bytes.
+fn make_feed(alloc: Global) -> Result<MemFeed, AllocError> {
+    let script = Vec::from_slice(alloc, &[FeedAnswer::Wait, FeedAnswer::Fail])?;
+    let log = Vec::from_slice(alloc, b"ab")?;
+    Ok(MemFeed::new(name_of(alloc)?, log, script))
 }
 
 #[test]
 fn a_feed_answers_by_its_script(rt: HostRuntime) -> Result<(), AllocError> {
-    let alloc = rt.alloc();
-    let answers = [
-        FeedAnswer::Give(0),
-        FeedAnswer::Wait,
-        FeedAnswer::Fail,
-        FeedAnswer::Give(9),
-    ];
-    let script = Vec::from_slice(alloc, &answers)?;
-    let log = Vec::from_slice(alloc, b"abcd")?;
-    let mut feed = MemFeed::new(name_of(alloc, b"c", b"0")?, log, script);
-    let mut buf = [0u8; 2];
-    assert_eq!(rt; feed.read(&mut buf), Ok(Got::Bytes(1)));
+    let mut feed = make_feed(rt.alloc())?;
+    let mut buf = [0u8; 3];
     assert_eq!(rt; feed.read(&mut buf), Ok(Got::NotYet));
     assert_eq!(rt; feed.read(&mut buf), Err(Failed));
     assert_eq!(rt; feed.read(&mut buf), Ok(Got::Bytes(2)));
-    assert_eq!(rt; buf, *b"bc");
-    assert_eq!(rt; feed.read(&mut buf), Ok(Got::Bytes(1)));
     assert_eq!(rt; feed.read(&mut buf), Ok(Got::End));
     assert_eq!(rt; (feed.faults(), feed.waits()), (1, 1));
     Ok(())
 }
 
 #[test]
-fn names_have_their_letters(rt: HostRuntime) {
-    for (text, keyspace, shard) in [
-        (b"".as_slice(), false, false),
-        (b"-80".as_slice(), true, true),
-        (b"a.b".as_slice(), false, true),
-        (b".".as_slice(), false, false),
-        (b"..".as_slice(), false, false),
-        (b"a/b".as_slice(), false, false),
-    ] {
-        assert_eq!(rt; names_keyspace(text), keyspace);
-        assert_eq!(rt; names_shard(text), shard);
+fn texts_are_patterns_or_none(rt: HostRuntime) {
+    let mut patterns = BuiltPatterns::new();
+    for text in NO_PATTERNS {
+        assert!(rt; matches!(patterns.pattern(rt.alloc(), text), Err(PatternEnd::Syntax)));
     }
+    assert!(rt; patterns.pattern(rt.alloc(), b"^t[0-9]").is_ok());
+    assert_eq!(rt; patterns.refused, 0);
 }
 
-/// Adds a shard whose first feed fails at its first read.
-fn add(
-    tablets: &mut MemTablets,
-    alloc: Global,
-    name: ShardName,
-    log: &[u8],
-) -> Result<(), AllocError> {
-    if !names_keyspace(name.keyspace.as_bytes()) || !names_shard(name.shard.as_bytes()) {
-        return Err(AllocError);
+/// Tablets of one shard, whose first listing and first fetch fail.
+fn make_tablets(alloc: Global) -> Result<MemTablets, AllocError> {
+    let mut tablets = MemTablets::new(alloc)?;
+    tablets.point(alloc, "anywhere")?;
+    tablets.fails(alloc, &[true], &[true])?;
+    let name = name_of(alloc)?;
+    if names_keyspace(name.keyspace.as_bytes()) && names_shard(name.shard.as_bytes()) {
+        tablets.add(name, b"log", b"s", Vec::new(alloc))?;
     }
-    let mut scripts = Vec::new(alloc);
-    scripts.push(Vec::from_slice(alloc, &[FeedAnswer::Fail])?)?;
-    tablets.add(name, log, b"s", scripts)
+    Ok(tablets)
+}
+
+/// How many bytes the first read of the log gives; or none where it isn't opened or fails.
+fn read_once<T: Tablets>(alloc: Global, tablets: &mut T, name: &ShardName) -> Option<usize> {
+    let Ok(Some(mut opened)) = tablets.open_log(alloc, name) else {
+        return None;
+    };
+    let mut buf = [0u8; 4];
+    let got = opened.feed.read(&mut buf);
+    tablets.give_back(name, opened.feed);
+    match got {
+        Ok(Got::Bytes(n)) => Some(n),
+        _ => None,
+    }
 }
 
 #[test]
-fn tablets_list_their_shards(rt: HostRuntime) -> Result<(), AllocError> {
-    let alloc = rt.alloc();
-    let mut tablets = MemTablets::new(alloc)?;
-    for shard in [b"80-".as_slice(), b"-80".as_slice(), b"80-".as_slice()] {
-        add(&mut tablets, alloc, name_of(alloc, b"c", shard)?, b"log")?;
-    }
-    add(&mut tablets, alloc, name_of(alloc, b"d", b"0")?, b"log")?;
-    tablets.fails(alloc, &[], &[true])?;
-    assert!(rt; matches!(tablets.list(alloc, b"c"), Err(AskEnd::Failed)));
-    let listed = tablets.list(alloc, b"c").map_err(|_| AllocError)?;
-    let names = listed.ok_or(AllocError)?;
-    assert_eq!(rt; names.len(), 2);
-    assert_eq!(rt; names[0].as_bytes(), b"-80".as_slice());
-    assert_eq!(rt; names[1].as_bytes(), b"80-".as_slice());
-    assert!(rt; matches!(tablets.list(alloc, b"z"), Ok(None)));
+fn tablets_answer_by_their_scripts(rt: HostRuntime) -> Result<(), AllocError> {
+    let mut tablets = make_tablets(rt.alloc())?;
+    assert!(rt; tablets.list(rt.alloc(), b"c").is_err());
+    let listed = tablets.list(rt.alloc(), b"c").map_err(|_| AllocError)?;
+    assert!(rt; listed.is_some_and(|names| names.len() == 1));
+    assert!(rt; tablets.pattern(rt.alloc(), b"a|b").is_ok());
     Ok(())
-}
-
-/// Opens the log, reads once and gives the feed back.
-fn read_once<T: Tablets>(
-    alloc: Global,
-    tablets: &mut T,
-    name: &ShardName,
-    buf: &mut [u8],
-) -> Option<Result<Got, Failed>> {
-    let Ok(Some(Opened { mut feed, schema })) = tablets.open_log(alloc, name) else {
-        return None;
-    };
-    drop(schema);
-    let got = feed.read(buf);
-    tablets.give_back(name, feed);
-    Some(got)
 }
 
 #[test]
 fn tablets_open_logs_by_their_scripts(rt: HostRuntime) -> Result<(), AllocError> {
-    let alloc = rt.alloc();
-    let mut tablets = MemTablets::new(alloc)?;
-    tablets.point(alloc, "anywhere")?;
-    add(&mut tablets, alloc, name_of(alloc, b"c", b"0")?, b"log")?;
-    tablets.fails(alloc, &[true], &[])?;
-    let name = name_of(alloc, b"c", b"0")?;
-    let absent = name_of(alloc, b"c", b"1")?;
-    let mut buf = [0u8; 4];
-    assert_eq!(rt; read_once(alloc, &mut tablets, &name, &mut buf), None);
-    assert_eq!(rt; read_once(alloc, &mut tablets, &absent, &mut buf), None);
-    assert_eq!(rt;
-        read_once(alloc, &mut tablets, &name, &mut buf),
-        Some(Err(Failed))
-    );
-    assert_eq!(rt;
-        read_once(alloc, &mut tablets, &name, &mut buf),
-        Some(Ok(Got::Bytes(3)))
-    );
-    assert_eq!(rt; buf, *b"log\0");
+    let mut tablets = make_tablets(rt.alloc())?;
+    let name = name_of(rt.alloc())?;
+    assert_eq!(rt; read_once(rt.alloc(), &mut tablets, &name), None);
+    assert_eq!(rt; read_once(rt.alloc(), &mut tablets, &name), Some(3));
     Ok(())
 }
 

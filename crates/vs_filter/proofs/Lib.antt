@@ -1,0 +1,5 @@
+pub mod Readings
+pub mod PickLemmas
+pub mod FirstLemmas
+pub mod SlashLemmas
+pub mod BuildLemmas
