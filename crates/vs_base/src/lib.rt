@@ -6,6 +6,8 @@ mod change;
 mod copied;
 mod gtid;
 mod list;
+mod numbers;
+mod rule_text;
 mod shard_name;
 mod table;
 #[cfg(test)]
@@ -18,6 +20,8 @@ pub use change::{Change, LastKey};
 pub use copied::Copied;
 pub use gtid::Gtid;
 pub use list::List;
+pub use numbers::{are_digits, digits_value, is_digit, is_whole, number_of};
+pub use rule_text::RuleText;
 pub use shard_name::ShardName;
 pub use table::{Column, ColumnKind, Table};
 pub use text::Text;

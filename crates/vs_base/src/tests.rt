@@ -71,3 +71,24 @@ fn changes_and_tables_are_copied(rt: HostRuntime) -> Result<(), Fail> {
     assert_eq!(rt; table.copy(alloc)?.name.as_bytes(), b"t".as_slice());
     Ok(())
 }
+
+#[test]
+fn whole_numbers_are_read_by_their_kind(rt: HostRuntime) {
+    let tiny = ColumnKind::TinyInt { unsigned: false };
+    assert!(rt; is_whole(tiny));
+    assert_eq!(rt; number_of(tiny, b"-128"), Some(-128));
+    assert_eq!(rt; number_of(tiny, b"128"), None);
+    assert_eq!(rt; digits_value(b"0042"), Some(42));
+    assert!(rt; are_digits(b"42") && !is_digit(b'a'));
+}
+
+#[test]
+fn rules_are_copied(rt: HostRuntime) -> Result<(), Fail> {
+    let alloc = rt.alloc();
+    let rule = RuleText {
+        pattern: text(alloc, b"/.*")?,
+        filter: Text::new(alloc),
+    };
+    assert!(rt; rule.copy(alloc)? == rule);
+    Ok(())
+}

@@ -1,5 +1,5 @@
 -- The filter, and the rows that a copy sends.
-use Rattle.std.specs.Prelude.{◌≡◌, ℕ, ◌+◌, suc, zero, Bool, true, false, not, ◌&&◌, ◌||◌, List, [], ◌∷◌, map, length, take, max, Option, Some, None, if◌then◌else◌, is_some, nat_le}
+use Rattle.std.specs.Prelude.{◌≡◌, ℕ, ◌+◌, suc, zero, Bool, true, false, not, ◌&&◌, ◌||◌, List, [], ◌∷◌, map, length, take, max, Option, Some, None, if◌then◌else◌, nat_le}
 use Rattle.std.specs.List.{filter, filter_map, flat_map, take_while, find, fold, last_or}
 use Rattle.std.specs.Option.{option_and_then, option_map, option_map_or}
 use Rattle.std.specs.Ordering.{nat_cmp, is_eq, is_gt}
@@ -10,6 +10,7 @@ use Rattle.vs_base.specs.declared.ShardName.{ShardName}
 use Rattle.vs_base.specs.declared.Change.{Change}
 use Rattle.vs_base.specs.declared.LastKey.{LastKey}
 use Rattle.vs_base.specs.Cells.{row_size}
+pub use Rattle.vs_base.specs.Picks.{Bound, with_images, picked_change}
 use Rattle.vs_gtid.specs.declared.Work.{Work}
 use Rattle.vs_gtid.specs.declared.Work.TheVariants.{Rows, Ddl, Other, Journal}
 use Rattle.vs_gtid.specs.declared.Entry.{Entry}
@@ -20,26 +21,8 @@ use Rattle.vs_model.specs.Vectors.Place.{Fresh, Copying, Streaming}
 use Rattle.vs_model.specs.Frames.{Frame}
 use Rattle.vs_model.specs.Frames.Frame.{Tx, Chunk, CopyDone}
 
--- a filter, bound to the schema of a shard
-pub record Bound : Type 0 where
-  -- a row of a table as the filter picks it: kept or not, and projected
-  pub row : List ℕ → Image → Option Image
-  -- the tables that are picked, ascending
-  pub tables : List (List ℕ)
-  -- the key of a row of a table, and the order of such keys
-  pub key : List ℕ → Image → Image
-  pub order : List ℕ → Image → Image → Ordering
-
 abbrev pub Filter : Type 0
 Filter = ShardName → Bound
-
--- a change with its images, or nothing where it has none
-abbrev pub with_images : Change → Option Change
-with_images c = if is_some c.before || is_some c.after then Some c else None
-
--- the change with each image picked
-abbrev pub picked_change : Bound → Change → Option Change
-picked_change bound c = with_images (record c { before = option_and_then (bound.row c.table) c.before; after = option_and_then (bound.row c.table) c.after })
 
 abbrev pub picked_work : Bound → Work → Work
 picked_work bound (Rows changes) = Rows (filter_map (picked_change bound) changes)

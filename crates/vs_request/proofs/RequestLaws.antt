@@ -11,7 +11,7 @@ use Rattle.vs_request.specs.declared.refusal.RequestRefusal.{RequestRefusal}
 use Rattle.vs_request.specs.declared.refusal.RequestRefusal.TheVariants.{Message, NoShards, TooManyShards, BadName, BadPosition, NeedsShard, TooManyKeys, LongKey, TooManyRules, Memory}
 use Rattle.vs_request.specs.declared.request.Request.{Request}
 use Rattle.vs_request.specs.declared.request.Flags.{Flags}
-use Rattle.vs_request.specs.declared.request.RuleText.{RuleText}
+use Rattle.vs_base.specs.declared.rule_text.RuleText.{RuleText}
 use Rattle.vs_request.specs.declared.request.Wanted.{Wanted}
 use Rattle.vs_request.specs.Entries.{AskFor, IsFaultIn}
 use Rattle.vs_request.specs.Requests.{HasFault, IsFirstFault, Means, Says, entries_in, flags_in, rule_text, rules_in}

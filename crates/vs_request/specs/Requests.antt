@@ -14,7 +14,7 @@ use Rattle.vs_proto.specs.declared.vgtid.ShardGtid.{ShardGtid}
 use Rattle.vs_proto.specs.declared.vgtid.VGtid.{VGtid}
 use Rattle.vs_request.specs.declared.request.Flags.{Flags}
 use Rattle.vs_request.specs.declared.request.Request.{Request}
-use Rattle.vs_request.specs.declared.request.RuleText.{RuleText}
+use Rattle.vs_base.specs.declared.rule_text.RuleText.{RuleText}
 use Rattle.vs_request.specs.declared.request.Wanted.{Wanted}
 use Rattle.vs_request.specs.declared.refusal.RequestRefusal.{RequestRefusal}
 use Rattle.vs_request.specs.declared.refusal.RequestRefusal.TheVariants.{Message, TooManyRules}

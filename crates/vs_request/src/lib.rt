@@ -14,5 +14,5 @@ mod tests;
 pub use laws::{law_keys, law_requests};
 pub use read::read_request;
 pub use refusal::RequestRefusal;
-pub use request::{Flags, Request, RuleText, StartAt, Wanted};
-pub use vs_base::OutOfMemory;
+pub use request::{Flags, Request, StartAt, Wanted};
+pub use vs_base::{OutOfMemory, RuleText};

@@ -14,9 +14,9 @@ ghost use Rattle.vs_request.specs.Requests.{
 };
 
 use crate::entry::read_entries;
-use crate::{Flags, Request, RequestRefusal, RuleText, Wanted};
+use crate::{Flags, Request, RequestRefusal, Wanted};
 use std::alloc::Global;
-use vs_base::List;
+use vs_base::{List, RuleText};
 use vs_proto::{Filter, VGtid, VStreamRequest};
 
 /// How many shards a request may name.

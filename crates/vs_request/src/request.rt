@@ -1,4 +1,4 @@
-use vs_base::{LastKey, List, Text};
+use vs_base::{LastKey, List, RuleText, Text};
 use vs_gtid::GtidSet;
 
 /// Where a shard is to start.
@@ -20,13 +20,6 @@ pub struct Wanted {
     pub start: StartAt,
     /// The last row that was sent of a copy that goes on.
     pub last_key: Option<LastKey>,
-}
-
-/// A rule of the filter, as its texts: which tables it fits, and what of them is streamed.
-#[derive(Debug, Drop, PartialEq, Eq)]
-pub struct RuleText {
-    pub pattern: Text,
-    pub filter: Text,
 }
 
 /// How the stream is to run; the times are seconds, and 0 is none.

@@ -3,7 +3,7 @@ use Rattle.std.proofs.Common.{◌≡◌, ◌++◌, ◌+◌, ◌-◌, ◌*◌, �
 use Rattle.std.specs.Prelude.{◌&&◌, ◌==◌, if◌then◌else◌}
 use Rattle.std.specs.List.{fold, list_all, take_while}
 use Rattle.std.proofs.lemmas.Bool.{and_parts, and_from, eqb-true, leb-true, le-leb, lt-ltb}
-use Rattle.vs_select.specs.Numbers.{digits_value, is_digit, small_value}
+use Rattle.vs_base.specs.Numbers.{digits_value, is_digit, small_value}
 use Rattle.vs_select.specs.Parts.{behind, closed, is_blank, is_word_byte, number_by, number_of_run, part_at, run_at, sign_at, sign_by, up_to_backquote}
 use Rattle.vs_select.specs.Productions.{AreDigitsOf, EndsAt, IsSign, IsWord, Spells, in_quotes, number_text}
 use Rattle.vs_select.specs.declared.part.Part.{Part}

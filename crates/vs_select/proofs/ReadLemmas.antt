@@ -2,7 +2,7 @@
 use Rattle.std.proofs.Common.{◌≡◌, ◌≤◌, ◌<◌, ◌+◌, ◌-◌, ℕ, zero, suc, Bool, true, false, List, [], ◌∷◌, length, drop, refl, arith, sym, ap, ◌∙◌, length-drop}
 use Rattle.std.specs.Prelude.{Option, Some, None, cond, Result, Ok, Err, ◌==◌, ◌||◌}
 use Rattle.std.specs.List.{prefix_len}
-use Rattle.vs_select.specs.Numbers.{is_digit}
+use Rattle.vs_base.specs.Numbers.{is_digit}
 use Rattle.vs_select.specs.Parts.{Next, behind, closed, is_blank, is_letter, is_word_byte, left_at, long_sign, next_in, next_part, part_at, parts_from, placed, sign_at, sign_by, up_to_backquote, up_to_quote, with_byte, with_part}
 use Rattle.vs_select.specs.Grammar.{after, finished, run, step}
 use Rattle.vs_select.specs.declared.part.Part.{Part}

@@ -4,7 +4,7 @@ use Rattle.std.specs.Prelude.{◌||◌, ◌==◌, ◌&&◌, nat_le}
 use Rattle.std.specs.List.{list_all, take_while}
 use Rattle.std.specs.Option.{option_and_then}
 use Rattle.std.proofs.lemmas.Bool.{eqb-true, or_cases}
-use Rattle.vs_select.specs.Numbers.{is_digit, small_value}
+use Rattle.vs_base.specs.Numbers.{is_digit, small_value}
 use Rattle.vs_select.specs.Grammar.{done, ended, finished, run, select_of, step}
 use Rattle.vs_select.specs.Parts.{Next, behind, closed, is_blank, is_word_byte, left_at, long_sign, next_in, next_part, number_by, number_of_run, part_at, parts, placed, short_sign, sign_at, sign_by, sign_part, up_to_backquote, up_to_quote}
 use Rattle.vs_select.specs.Productions.{AreSelect, BeginsWith, CanGoOn, IsMissedAt, IsNoneFrom, IsSelect, IsUnclosed, Spells}

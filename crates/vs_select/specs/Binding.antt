@@ -5,7 +5,7 @@ use Rattle.std.specs.Option.{option_and_then, option_map, option_map_or}
 use Rattle.std.specs.Cmp.Lexicographic.{pointwise}
 use Rattle.vs_base.specs.declared.table.Column.{Column}
 use Rattle.vs_base.specs.declared.table.ColumnKind.{ColumnKind}
-use Rattle.vs_select.specs.Numbers.{signed, whole_range}
+use Rattle.vs_base.specs.Numbers.{signed, whole_range}
 use Rattle.vs_select.specs.declared.select.Literal.{Literal}
 use Rattle.vs_select.specs.declared.select.Condition.{Condition}
 use Rattle.vs_select.specs.declared.select.Comparison.{Comparison}

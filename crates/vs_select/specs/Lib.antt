@@ -1,5 +1,3 @@
-pub mod Numbers
-pub mod Keys
 pub mod Parts
 pub mod Grammar
 pub mod Binding

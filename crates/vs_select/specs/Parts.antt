@@ -2,7 +2,7 @@
 use Rattle.std.specs.Prelude.{ℕ, zero, suc, ◌+◌, ◌-◌, Bool, true, false, ◌&&◌, ◌||◌, ◌==◌, nat_eq, nat_le, List, [], ◌∷◌, length, drop, map, Option, Some, None, option_map}
 use Rattle.std.specs.List.{take_while, prefix_len, list_all}
 use Rattle.std.specs.Cmp.Lexicographic.{pointwise}
-use Rattle.vs_select.specs.Numbers.{is_digit, small_value}
+use Rattle.vs_base.specs.Numbers.{is_digit, small_value}
 use Rattle.vs_select.specs.declared.select.Comparison.{Comparison}
 use Rattle.vs_select.specs.declared.select.Comparison.TheVariants.{Equal, NotEqual, Less, AtMost, Greater, AtLeast}
 use Rattle.vs_select.specs.declared.part.Part.{Part}

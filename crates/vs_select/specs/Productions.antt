@@ -2,7 +2,7 @@
 use Rattle.std.specs.Prelude.{◌≡◌, ◌≤◌, ◌-◌, ◌⊎◌, ℕ, Bool, true, false, not, ◌||◌, ◌==◌, List, [], ◌∷◌, ◌++◌, length, Option, Some, None, Ok, Err, codes, nat_eq}
 use Rattle.std.specs.List.{IsDistinct, list_all}
 use Rattle.std.specs.Cmp.Lexicographic.{pointwise}
-use Rattle.vs_select.specs.Numbers.{digits_value, is_digit}
+use Rattle.vs_base.specs.Numbers.{digits_value, is_digit}
 use Rattle.vs_select.specs.Grammar.{select_of}
 use Rattle.vs_select.specs.Parts.{is_blank, is_keyword, is_word_byte}
 use Rattle.vs_select.specs.declared.part.Part.{Part}

@@ -6,8 +6,8 @@ use Rattle.std.specs.Ordering.{nat_cmp, int_cmp, is_eq, is_ne, is_lt, is_le, is_
 use Rattle.std.specs.Cmp.Lexicographic.{slice_cmp}
 use Rattle.std.specs.declared.cmp.Ordering.{Ordering}
 use Rattle.vs_base.specs.declared.cell.Cell.{Cell}
-use Rattle.vs_select.specs.Numbers.{number_of}
-use Rattle.vs_select.specs.Keys.{cell_at, project}
+use Rattle.vs_base.specs.Numbers.{number_of}
+use Rattle.vs_base.specs.Keys.{cell_at, project}
 use Rattle.vs_select.specs.declared.select.Comparison.{Comparison}
 use Rattle.vs_select.specs.declared.bound.Check.{Check}
 use Rattle.vs_select.specs.declared.bound.BoundSelect.{BoundSelect}

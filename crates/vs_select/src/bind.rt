@@ -13,14 +13,13 @@ ghost use Rattle.vs_select.specs.Binding.{
   names_in,
   place_of,
 };
-ghost use Rattle.vs_select.specs.Numbers.{signed};
+ghost use Rattle.vs_base.specs.Numbers.{signed};
 ghost use Rattle.vs_select.specs.Refusals.{WrongIs};
 
 use crate::bound::all_places;
-use crate::numbers::is_whole;
 use crate::{BoundTest, Check, Comparison, Condition, Literal, Select, SelectRefusal, Test};
 use std::alloc::Global;
-use vs_base::{Column, ColumnKind, List, OutOfMemory, Text};
+use vs_base::{Column, ColumnKind, List, OutOfMemory, Text, is_whole};
 
 /// The place and the kind of the column with this name.
 fn find_column(columns: &[Column], name: &Text) -> Option<(usize, ColumnKind)>

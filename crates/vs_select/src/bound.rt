@@ -2,14 +2,13 @@
 ghost use Rattle.std.specs.Prelude.{◌≡◌, IfOk};
 ghost use Rattle.std.specs.List.{range_with_len};
 ghost use Rattle.vs_select.specs.Binding.{whole};
-ghost use Rattle.vs_select.specs.Keys.{cell_at, project};
+ghost use Rattle.vs_base.specs.Keys.{cell_at, project};
 ghost use Rattle.vs_select.specs.Rows.{check_holds, compares, keeps, taken_row};
 
 use crate::Comparison;
-use crate::numbers::number_of;
 use std::alloc::Global;
 use std::cmp::Ordering;
-use vs_base::{Cell, ColumnKind, Image, List, OutOfMemory, Table, Text};
+use vs_base::{Cell, ColumnKind, Image, List, OutOfMemory, Table, Text, number_of};
 
 /// A condition on a cell.
 #[derive(Debug, Drop)]

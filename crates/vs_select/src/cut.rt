@@ -20,10 +20,9 @@ ghost use Rattle.vs_select.specs.Parts.{
 };
 
 use crate::Comparison;
-use crate::numbers::{are_digits, digits_value, is_digit};
 use crate::part::Part;
 use std::alloc::Global;
-use vs_base::{OutOfMemory, Text};
+use vs_base::{OutOfMemory, Text, are_digits, digits_value, is_digit};
 
 /// The next part of a text, how much of the text is left where it begins, and the text behind it.
 #[derive(Drop)]

@@ -5,7 +5,6 @@ mod bind;
 mod bound;
 mod cut;
 mod laws;
-mod numbers;
 mod part;
 mod refusal;
 mod select;

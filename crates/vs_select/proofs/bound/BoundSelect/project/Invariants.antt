@@ -1,5 +1,5 @@
 use Rattle.std.proofs.Common.{◌≡◌, map, take}
-use Rattle.vs_select.specs.Keys.{cell_at}
+use Rattle.vs_base.specs.Keys.{cell_at}
 use Rattle.vs_select.proofs.bound.BoundSelect.project.Given as goal
 
 abbrev pub invariant-loop-place : goal.invariant-loop-place

@@ -1,7 +1,7 @@
 //! Whole numbers in columns, by their decimal texts.
 ghost use Rattle.std.specs.Prelude.{◌≡◌, ◌≤◌, ◌^◌, IfSome, is_some, min};
 ghost use Rattle.std.specs.List.{list_all};
-ghost use Rattle.vs_select.specs.Numbers.{
+ghost use Rattle.vs_base.specs.Numbers.{
   below_zero,
   digits_value,
   from_zero,
@@ -12,7 +12,7 @@ ghost use Rattle.vs_select.specs.Numbers.{
   whole_range,
 };
 
-use vs_base::ColumnKind;
+use crate::ColumnKind;
 
 /// The least number that is in no column.
 const BEYOND: u128 = 1 << 64;
