@@ -5,3 +5,5 @@ pub mod Answers
 pub mod Numbers
 pub mod Keys
 pub mod Picks
+pub mod Blanks
+pub mod Rows

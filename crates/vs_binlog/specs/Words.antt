@@ -1,9 +1,7 @@
 -- The first word of a statement, behind blanks and comments.
 use Rattle.std.specs.Prelude.{ℕ, ◌-◌, ◌==◌, Bool, true, false, ◌&&◌, ◌||◌, not, nat_le, if◌then◌else◌, List, [], ◌∷◌, map}
 use Rattle.std.specs.List.{take_while}
-
-abbrev pub is_blank : ℕ → Bool
-is_blank c = c == 32 || (c == 9 || (c == 13 || c == 10))
+pub use Rattle.vs_base.specs.Blanks.{is_blank}
 
 abbrev pub is_between : ℕ → ℕ → ℕ → Bool
 is_between low high c = nat_le low c && nat_le c high

@@ -22,15 +22,7 @@ use Rattle.vs_model.specs.Vectors.{Place, Vector}
 use Rattle.vs_model.specs.Vectors.Place.{Fresh, Copying, Streaming}
 use Rattle.vs_model.specs.Frames.{Frame}
 use Rattle.vs_model.specs.Frames.Frame.{Tx, Switch, Halt, Chunk, CopyDone, AllCopied, Beat}
-
--- the length of a cell; of NULL it is -1
-abbrev pub cell_length : Cell → ℤ
-cell_length Null = negsuc 0
-cell_length (Bytes text) = pos (length text)
-
-abbrev pub cell_bytes : Cell → List ℕ
-cell_bytes Null = []
-cell_bytes (Bytes text) = text
+pub use Rattle.vs_base.specs.Rows.{cell_length, cell_bytes}
 
 -- a row: the lengths of its cells, and their bytes
 abbrev pub row_of : List Cell → Row

@@ -1,6 +1,6 @@
 -- A text of a set is scanned to its spans, and to its end.
-use Rattle.std.proofs.Common.{◌≡◌, ℕ, ◌+◌, ◌-◌, ◌*◌, ◌<◌, ◌≤◌, Bool, true, false, ◌&&◌, ◌||◌, ◌==◌, nat_le, List, [], ◌∷◌, ◌++◌, length, length-append, Some, refl, ap, sym, subst, ◌∙◌, inl, inr, arith}
-use Rattle.std.proofs.lemmas.Bool.{cases_Bool, lt-ltb}
+use Rattle.std.proofs.Common.{◌≡◌, ℕ, ◌+◌, ◌-◌, ◌*◌, ◌<◌, ◌≤◌, Bool, true, false, ◌||◌, ◌==◌, nat_le, List, [], ◌∷◌, ◌++◌, length, length-append, Some, refl, ap, sym, subst, ◌∙◌, inl, inr, arith}
+use Rattle.std.proofs.lemmas.Bool.{and_parts, cases_Bool, lt-ltb}
 use Rattle.std.proofs.lemmas.Bool.Decides.{nat_tests}
 use Rattle.std.proofs.lemmas.List.{append_assoc, append-nil}
 use Rattle.std.proofs.lemmas.Int.Digits.{digits_value_push}
@@ -13,10 +13,6 @@ use Rattle.vs_gtid.specs.declared.part.Part.TheVariants.{Prefix, Opening, Gap, U
 use Rattle.vs_gtid.specs.SetTexts.{is_blank, IsNumber, IsSpan, AreSpans}
 use Rattle.vs_gtid.specs.Parts.{begun, ended, goes_on, behind_span, next, scanned_from, span}
 use Rattle.vs_gtid.proofs.ScanLemmas.{scan_some}
-
-pub and_parts : (a b : Bool) → (a && b) ≡ true → (a ≡ true) × (b ≡ true)
-and_parts true b h = (refl, h)
-and_parts false b h = let c : false ≡ true = h in cc
 
 pub or_false_parts : (a b : Bool) → (a || b) ≡ false → (a ≡ false) × (b ≡ false)
 or_false_parts true b h = let c : true ≡ false = h in cc

@@ -1,6 +1,6 @@
 -- Items, and a whole text of a set, are scanned to their spans.
 use Rattle.std.proofs.Common.{◌≡◌, ℕ, ◌+◌, ◌<◌, true, false, ◌==◌, nat_lt, List, [], ◌∷◌, ◌++◌, length, length-append, get_or, drop, Option, Some, None, refl, ap, sym, subst, ◌∙◌, inl, inr, arith}
-use Rattle.std.proofs.lemmas.Bool.{lt-ltb, ne_eqb}
+use Rattle.std.proofs.lemmas.Bool.{and_parts, lt-ltb, ne_eqb}
 use Rattle.std.proofs.lemmas.Bool.Decides.{nat_tests}
 use Rattle.std.proofs.lemmas.List.{append_assoc, append-nil, drop_at, get_or_push, get_or_append_left}
 use Rattle.std.specs.List.{list_all}
@@ -12,7 +12,7 @@ use Rattle.vs_gtid.specs.SetTexts.{is_blank, prefix, AreSpans, IsSpan, IsItem, A
 use Rattle.vs_gtid.specs.Parts.{begun, end_of, fits_uuid, goes_on, in_uuid, behind_span, next, scanned, scanned_from, Scanned}
 use Rattle.vs_gtid.proofs.ScanLemmas.{scan_some, scan_end, scan_begin}
 use Rattle.vs_gtid.proofs.UuidLemmas.{uuid_long, uuid_fits}
-use Rattle.vs_gtid.proofs.SetTextComplete.{and_parts, blanks_scanned, ends_by, moved, none_ended, quiet, span_scanned, spans_scanned, EndsSpan, IsTaken}
+use Rattle.vs_gtid.proofs.SetTextComplete.{blanks_scanned, ends_by, moved, none_ended, quiet, span_scanned, spans_scanned, EndsSpan, IsTaken}
 
 -- a byte that fits goes to the UUID's text
 pub uuid_next : (lead before : List ℕ) (b : ℕ) → length before < 36 → fits_uuid (length before) b ≡ true →

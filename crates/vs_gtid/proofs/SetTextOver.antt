@@ -1,7 +1,7 @@
 -- Where the first number over the greatest comes into the spans so far: with its 19th digit, and then it stays.
 use Rattle.std.proofs.Common.{◌≡◌, ℕ, ◌+◌, ◌-◌, ◌^◌, ◌<◌, ◌≤◌, ◌⊎◌, true, false, ◌&&◌, ◌==◌, nat_lt, nat_le, nat_eq, List, [], ◌∷◌, ◌++◌, length, length-append, get_or, drop, codes, Option, Some, None, refl, ap, sym, subst, ◌∙◌, inl, inr, eqb-true, arith}
 use Rattle.std.proofs.Math.Nat.{pow-le-pow_right}
-use Rattle.std.proofs.lemmas.Bool.{cases_Bool, cases_lt, le-ltb}
+use Rattle.std.proofs.lemmas.Bool.{and_parts, cases_Bool, cases_lt, le-ltb}
 use Rattle.std.proofs.lemmas.Bool.Decides.{nat_tests}
 use Rattle.std.proofs.lemmas.List.{append-nil}
 use Rattle.std.proofs.lemmas.Int.Digits.{digits_value-lt}
@@ -16,7 +16,7 @@ use Rattle.vs_gtid.specs.declared.part.Part.TheVariants.{Prefix, Opening, Gap, U
 use Rattle.vs_gtid.specs.SetTexts.{is_blank}
 use Rattle.vs_gtid.specs.Parts.{begun, ended, fits_uuid, goes_on, in_first, in_last, with_digit, behind_item, behind_span, next}
 use Rattle.vs_gtid.specs.Readings.{first_place, greatest, over_at}
-use Rattle.vs_gtid.proofs.SetTextComplete.{and_parts, none_ended}
+use Rattle.vs_gtid.proofs.SetTextComplete.{none_ended}
 use Rattle.vs_gtid.proofs.SetTextStands.{AreDigits, IsInFirst, IsInLast, Stands}
 use Rattle.vs_gtid.proofs.SetTextSteps.{digit_goes, goes_ended, map_some, map_some_uuid, more_digits, no_digit_no_dash, no_part, pick, some-part}
 

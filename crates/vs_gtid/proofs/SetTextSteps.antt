@@ -1,6 +1,6 @@
 -- Each byte that is taken leaves a front of a set's text, and where a text may end it is that of a set.
 use Rattle.std.proofs.Common.{◌≡◌, ℕ, zero, suc, ◌+◌, ◌-◌, ◌*◌, ◌<◌, ◌≤◌, ◌⊎◌, Bool, true, false, ◌&&◌, ◌==◌, nat_lt, nat_le, nat_eq, List, [], ◌∷◌, ◌++◌, length, length-append, take, get_or, slice_index, drop, Option, Some, None, unwrap_or, refl, ap, sym, subst, ◌∙◌, inl, inr, eqb-true, arith}
-use Rattle.std.proofs.lemmas.Bool.{cases_Bool, cases_lt, lt-ltb}
+use Rattle.std.proofs.lemmas.Bool.{and_parts, cases_Bool, cases_lt, lt-ltb}
 use Rattle.std.proofs.lemmas.Bool.Decides.{nat_tests}
 use Rattle.std.proofs.lemmas.List.{append_assoc, append-nil, drop_at, get_or_push, get_or_append_left, take_more}
 use Rattle.std.proofs.lemmas.List.Folds.{list_all-append}
@@ -267,10 +267,6 @@ more_opening text b h k = record {
 nil_text : (text : List ℕ) → nat_eq (length text) 0 ≡ true → text ≡ []
 nil_text [] h = refl
 nil_text (x ∷ xs) h = let e : suc (length xs) ≡ 0 = eqb-true (suc (length xs)) 0 h in absurd (omega (arith, e))
-
-and_parts : (a b : Bool) → (a && b) ≡ true → (a ≡ true) × (b ≡ true)
-and_parts true b h = (refl, h)
-and_parts false b h = let c : false ≡ true = h in cc
 
 opening_step : (text : List ℕ) (spans : List Span) (after : Part) (b : ℕ) → IsOpening text → spans ≡ [] → in_opening (length text) b ≡ Some after → Stands (text ++ b ∷ []) spans after
 opening_step text spans after b h none e =

@@ -1,6 +1,6 @@
 -- Which bytes the text of a UUID has at its 36 places.
 use Rattle.std.proofs.Common.{◌≡◌, ℕ, zero, suc, ◌<◌, Bool, true, false, ◌&&◌, ◌==◌, List, [], ◌∷◌, length, get_or, slice_index, Option, Some, None, unwrap_or, eqb-true, refl, ap, sym, subst, ◌∙◌, inl, inr, arith}
-use Rattle.std.proofs.lemmas.Bool.{cases_Bool}
+use Rattle.std.proofs.lemmas.Bool.{and_parts, cases_Bool}
 use Rattle.std.proofs.lemmas.Bool.Decides.{nat_tests}
 use Rattle.std.specs.Bool.{if◌then◌else◌}
 use Rattle.std.specs.List.{list_all}
@@ -11,10 +11,6 @@ use Rattle.vs_gtid.specs.Parts.{fits_uuid}
 some_parts : (b : Bool) (x : Option (List ℕ)) (v : List ℕ) → (if b then x else None) ≡ Some v → (b ≡ true) × (x ≡ Some v)
 some_parts true x v h = (refl, h)
 some_parts false x v h = let e : None ≡ Some v = h in cc
-
-and_parts : (a b : Bool) → (a && b) ≡ true → (a ≡ true) × (b ≡ true)
-and_parts true b h = (refl, h)
-and_parts false b h = let c : false ≡ true = h in cc
 
 pub all_at : (p : ℕ → Bool) (xs : List ℕ) (k : ℕ) → list_all p xs ≡ true → k < length xs → p (get_or xs k 0) ≡ true
 all_at p [] k h l = absurd (omega arith)

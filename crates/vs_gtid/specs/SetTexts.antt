@@ -5,19 +5,13 @@
 --   span   = number [ "-" number ]
 --   number = 1 to 19 decimal digits
 -- A production speaks of a whole text, and of the place where it begins in the set's text.
-use Rattle.std.specs.Prelude.{ℕ, ◌+◌, ◌≡◌, ◌≤◌, ◌⊎◌, Bool, true, ◌==◌, ◌||◌, List, [], ◌∷◌, ◌++◌, length, codes, Some}
+use Rattle.std.specs.Prelude.{ℕ, ◌+◌, ◌≡◌, ◌≤◌, ◌⊎◌, true, List, [], ◌∷◌, ◌++◌, length, codes, Some}
 use Rattle.std.specs.List.{list_all}
 use Rattle.std.specs.Char.{is_ascii_digit}
 use Rattle.std.specs.Str.Parse.{digits_value}
 use Rattle.uuid.specs.Text.{parsed_hyphenated}
 use Rattle.vs_gtid.specs.declared.span.Span.{Span}
-
--- space, tab, line feed or carriage return
-abbrev pub is_blank : ℕ → Bool
-is_blank b = (b == 32) || (b == 9) || (b == 10) || (b == 13)
-
-abbrev pub AreBlanks : List ℕ → Type 0
-AreBlanks text = list_all is_blank text ≡ true
+pub use Rattle.vs_base.specs.Blanks.{is_blank, AreBlanks}
 
 -- what may stand at the very front
 abbrev pub prefix : List ℕ

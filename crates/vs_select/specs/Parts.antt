@@ -7,10 +7,7 @@ use Rattle.vs_select.specs.declared.select.Comparison.{Comparison}
 use Rattle.vs_select.specs.declared.select.Comparison.TheVariants.{Equal, NotEqual, Less, AtMost, Greater, AtLeast}
 use Rattle.vs_select.specs.declared.part.Part.{Part}
 use Rattle.vs_select.specs.declared.part.Part.TheVariants.{Word, Quoted, Number, Bytes, Sign, Star, Comma, Wrong, Unclosed}
-
--- space, tab, CR and LF
-abbrev pub is_blank : ℕ → Bool
-is_blank c = c == 0x20 || (c == 0x09 || (c == 0x0D || c == 0x0A))
+pub use Rattle.vs_base.specs.Blanks.{is_blank}
 
 abbrev pub is_letter : ℕ → Bool
 is_letter c = (nat_le 0x41 c && nat_le c 0x5A) || (nat_le 0x61 c && nat_le c 0x7A)

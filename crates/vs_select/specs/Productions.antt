@@ -14,11 +14,9 @@ use Rattle.vs_select.specs.declared.select.Condition.{Condition}
 use Rattle.vs_select.specs.declared.select.Condition.TheVariants.{Compares, IsNull, IsNotNull}
 use Rattle.vs_select.specs.declared.select.Test.{Test}
 use Rattle.vs_select.specs.declared.select.Select.{Select}
+pub use Rattle.vs_base.specs.Blanks.{AreBlanks}
 
 -- ---- how a part is spelled
-
-abbrev pub AreBlanks : List ℕ → Type 0
-AreBlanks text = list_all is_blank text ≡ true
 
 -- bytes and the quote behind them, with two quotes for each of theirs
 abbrev pub quoted_byte : Bool → ℕ → List ℕ → List ℕ
