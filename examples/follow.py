@@ -26,6 +26,7 @@ import json
 import os
 import re
 import shutil
+import signal
 import subprocess
 import sys
 import tempfile
@@ -228,6 +229,8 @@ def follow(messages, path):
 
 
 def main():
+    # where the reader is gone, end without a trace
+    signal.signal(signal.SIGPIPE, signal.SIG_DFL)
     words = argparse.ArgumentParser(description=__doc__, formatter_class=argparse.RawDescriptionHelpFormatter)
     words.add_argument("vector")
     words.add_argument("--request", nargs="*")

@@ -17,6 +17,7 @@ out, which is told too.
 """
 import argparse
 import re
+import signal
 import sys
 
 INTEGERS = ("tinyint", "smallint", "mediumint", "int", "bigint")
@@ -120,6 +121,8 @@ def table_lines(name, columns, character_bytes):
 
 
 def main():
+    # where the reader is gone, end without a trace
+    signal.signal(signal.SIGPIPE, signal.SIG_DFL)
     words = argparse.ArgumentParser(description=__doc__, formatter_class=argparse.RawDescriptionHelpFormatter)
     words.add_argument("--query", metavar="SCHEMA")
     words.add_argument("--table")
