@@ -58,6 +58,8 @@ def run_once(program, folder, output):
 
 
 def main():
+    if not all(word.isdigit() for word in sys.argv[1:]):
+        sys.exit(__doc__)
     sizes = [int(word) for word in sys.argv[1:]] or [10, 100]
     program = build()
     for size in sizes:

@@ -1,5 +1,6 @@
-#!/usr/bin/env python3
-"""A client of vstreamd over the stock Protocol Buffers library (Debian: python3-protobuf, protobuf-compiler).
+#!/usr/bin/python3
+"""A client of vstreamd over the stock Protocol Buffers library (Debian: python3-protobuf; with protobuf-compiler it is
+read through protoc). Debian's library belongs to Debian's Python, whichever python3 is the first on the path.
 
 Usage: examples/follow.py VECTOR < stream                                   prints the changes of a stream
        examples/follow.py VECTOR --request [KEYSPACE/SHARD POSITION]        writes the request that goes on
@@ -25,6 +26,7 @@ import json
 import os
 import re
 import shutil
+import signal
 import subprocess
 import sys
 import tempfile
@@ -32,7 +34,8 @@ import tempfile
 try:
     from google.protobuf import descriptor_pb2, descriptor_pool, message, message_factory, text_format
 except ImportError:
-    print("follow.py: this Python has no protobuf library: apt-get install python3-protobuf", file=sys.stderr)
+    print(f"follow.py: {sys.executable} has no protobuf library: apt-get install python3-protobuf, or run this file by"
+          " a Python that has one", file=sys.stderr)
     sys.exit(3)
 
 PROTO = os.path.join(os.path.dirname(os.path.dirname(os.path.abspath(__file__))), "proto", "vstream.proto")
@@ -226,6 +229,8 @@ def follow(messages, path):
 
 
 def main():
+    # where the reader is gone, end without a trace
+    signal.signal(signal.SIGPIPE, signal.SIG_DFL)
     words = argparse.ArgumentParser(description=__doc__, formatter_class=argparse.RawDescriptionHelpFormatter)
     words.add_argument("vector")
     words.add_argument("--request", nargs="*")

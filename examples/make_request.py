@@ -6,6 +6,7 @@ Usage: examples/make_request.py KEYSPACE/SHARD POSITION     > request
 The position is a set of GTIDs, as `MySQL56/` for none, or `current` for the log's end. The messages
 are those of proto/vstream.proto.
 """
+import signal
 import struct
 import sys
 
@@ -23,6 +24,8 @@ def field(number, data):
 
 
 def main():
+    # where the reader is gone, end without a trace
+    signal.signal(signal.SIGPIPE, signal.SIG_DFL)
     if len(sys.argv) != 3 or sys.argv[1].count("/") != 1:
         sys.exit(__doc__)
     keyspace, shard = sys.argv[1].encode().split(b"/")

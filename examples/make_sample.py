@@ -1,34 +1,60 @@
 #!/usr/bin/env python3
-"""Writes the sample log beside this script: four single statements of one shard, commerce/0.
+"""Writes a log by hand: the sample beside this script, or a log of statements of your own.
+
+Usage: examples/make_sample.py                                     the sample shard commerce/0
+       examples/make_sample.py FOLDER KEYSPACE/SHARD < statements   FOLDER/KEYSPACE/SHARD.binlog
 
 The file is a MySQL binlog of version 4, written with binlog_checksum=NONE: the magic number, a format
-description, an empty PREVIOUS_GTIDS event, and a GTID and a QUERY event for each statement.
+description as MySQL 8.0 writes it, an empty PREVIOUS_GTIDS event, and a GTID and a QUERY event for each
+statement; `mysqlbinlog` prints it. Statements stand on lines of their own, and their schema is that of the
+keyspace (`vt_` and its name); the GTIDs go on from 1, and the times from 1,700,000,001.
 """
 import os
 import struct
+import sys
 import uuid
 
 SERVER = uuid.UUID("3e11fa47-71ca-11e1-9e33-c80aa9429562").bytes
+START = 1_700_000_000
+# How long the fixed front of the body of each type of event is, from type 1 on.
+POST_HEADS = bytes.fromhex(
+    "000d0008000000000400040000006200041a08000000080808020000000a0a0a2a2a001234000a2800"
+)
 
 
-def event(time, kind, body):
-    return struct.pack("<IBIIIH", time, kind, 1, 19 + len(body), 0, 0) + body
+def event(log, time, kind, body):
+    """Appends an event; its head says where it ends."""
+    length = 19 + len(body)
+    log += struct.pack("<IBIIIH", time, kind, 1, length, len(log) + length, 0) + body
 
 
-def format_description():
-    return event(0, 15, struct.pack("<H50xI", 4, 0) + bytes([19]) + bytes([0]) + bytes(4))
+def put_format_description(log):
+    version = struct.pack("<H50sI", 4, b"8.0.36", START)
+    event(log, START, 15, version + bytes([19]) + POST_HEADS + bytes([0]) + bytes(4))
 
 
-def gtid(number, time):
-    return event(time, 33, bytes([0]) + SERVER + struct.pack("<q", number))
+def put_gtid(log, number, time):
+    order = struct.pack("<Bqq", 2, number - 1, number)
+    event(log, time, 33, bytes([1]) + SERVER + struct.pack("<q", number) + order)
 
 
-def query(schema, text, time):
+def put_query(log, schema, text, time):
     head = struct.pack("<IIBHH", 0, 0, len(schema), 0, 0)
-    return event(time, 2, head + schema + bytes([0]) + text)
+    event(log, time, 2, head + schema + bytes([0]) + text)
 
 
-STATEMENTS = [
+def log_of(statements):
+    """The bytes of a log of statements, each with its schema."""
+    log = bytearray(b"\xfebin")
+    put_format_description(log)
+    event(log, START, 35, struct.pack("<Q", 0))
+    for number, (schema, text) in enumerate(statements, 1):
+        put_gtid(log, number, START + number)
+        put_query(log, schema, text, START + number)
+    return bytes(log)
+
+
+SAMPLE = [
     (b"vt_commerce", b"create table customer (id bigint primary key, name varchar(40))"),
     (b"vt_commerce", b"/* by hand */ alter table customer add column born date"),
     (b"mysql", b"create table audit (id int)"),
@@ -36,16 +62,24 @@ STATEMENTS = [
 ]
 
 
+def write(path, data):
+    os.makedirs(os.path.dirname(path), exist_ok=True)
+    with open(path, "wb") as out:
+        out.write(data)
+
+
 def main():
-    log = b"\xfebin" + format_description() + event(0, 35, struct.pack("<Q", 0))
-    for number, (schema, text) in enumerate(STATEMENTS, 1):
-        time = 1_700_000_000 + number
-        log += gtid(number, time) + query(schema, text, time)
-    folder = os.path.join(os.path.dirname(os.path.abspath(__file__)), "sample", "commerce")
-    with open(os.path.join(folder, "0.binlog"), "wb") as out:
-        out.write(log)
-    with open(os.path.join(folder, "0.schema"), "w", encoding="ascii") as out:
-        out.write("table customer\ncolumn id bigint\ncolumn name varchar(40)\nkey id\n")
+    if len(sys.argv) == 1:
+        front = os.path.join(os.path.dirname(os.path.abspath(__file__)), "sample", "commerce", "0")
+        write(f"{front}.binlog", log_of(SAMPLE))
+        write(f"{front}.schema", b"table customer\ncolumn id bigint\ncolumn name varchar(40)\nkey id\n")
+    elif len(sys.argv) == 3 and sys.argv[2].count("/") == 1:
+        schema = b"vt_" + sys.argv[2].split("/")[0].encode()
+        lines = sys.stdin.buffer.read().splitlines()
+        path = os.path.join(sys.argv[1], f"{sys.argv[2]}.binlog")
+        write(path, log_of([(schema, line) for line in lines if line]))
+    else:
+        sys.exit(__doc__)
 
 
 if __name__ == "__main__":

@@ -12,11 +12,12 @@ column in the primary key, else the key is the PRI columns in the order of the t
 --skip NAME: the rows of this table are passed over; its columns aren't looked at. May be given more than once.
 
 A column of a type that this release doesn't read is named on standard error with its table, nothing is printed, and
-the exit status is 1: skip that table. A primary key that a schema text can't have (of a decimal, text or blob) is left
+the exit status is 1: skip that table. So too where no column comes, as when `mysql` fails. A primary key that a schema text can't have (of a decimal, text or blob) is left
 out, which is told too.
 """
 import argparse
 import re
+import signal
 import sys
 
 INTEGERS = ("tinyint", "smallint", "mediumint", "int", "bigint")
@@ -120,6 +121,8 @@ def table_lines(name, columns, character_bytes):
 
 
 def main():
+    # where the reader is gone, end without a trace
+    signal.signal(signal.SIGPIPE, signal.SIG_DFL)
     words = argparse.ArgumentParser(description=__doc__, formatter_class=argparse.RawDescriptionHelpFormatter)
     words.add_argument("--query", metavar="SCHEMA")
     words.add_argument("--table")
@@ -132,7 +135,10 @@ def main():
     sys.stdin.reconfigure(encoding="utf-8", newline="\n")
     sys.stdout.reconfigure(encoding="utf-8")
     lines, faults = [], []
-    for name, columns in read_columns(sys.stdin, given.table).items():
+    tables = read_columns(sys.stdin, given.table)
+    if not tables:
+        sys.exit("schema_text.py: no column came on standard input")
+    for name, columns in tables.items():
         if name in given.skip:
             continue
         try:
