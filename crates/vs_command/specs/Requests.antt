@@ -1,6 +1,7 @@
 -- The frame that asks for a stream, at the front of the input, and what is wrong with an input.
 use Rattle.std.specs.Prelude.{◌≡◌, ◌≢◌, ◌≤◌, ◌<◌, ◌+◌, ◌^◌, ◌⊎◌, ℕ, Bool, false, ◌&&◌, not, nat_eq, List, [], ◌∷◌, ◌++◌, length, Option, Some, None, Result, Ok, Err}
 use Rattle.std.specs.Int.{w32, to_be_bytes}
+use Rattle.vs_base.specs.Limits.{most_message}
 use Rattle.vs_base.specs.declared.ShardName.{ShardName}
 use Rattle.vs_frame.specs.Frames.{Begins, IsPart, IsTooLong, IsWithinLimit, framed}
 use Rattle.vs_request.specs.Requests.{Says}
@@ -125,4 +126,4 @@ HasTaken fault taken rest = IsFrame taken
 
 -- No byte behind the frame at the front was taken: no more than its length, in four bytes; or these, and no more bytes behind them than they say, which is at most 16 MiB.
 abbrev pub IsWithinFrame : List ℕ → Type 0
-IsWithinFrame taken = (length taken ≤ 4) ⊎ ((n : ℕ) × (message : List ℕ) × (taken ≡ to_be_bytes w32 n ++ message) × (n ≤ 16777216) × (length message ≤ n))
+IsWithinFrame taken = (length taken ≤ 4) ⊎ ((n : ℕ) × (message : List ℕ) × (taken ≡ to_be_bytes w32 n ++ message) × (n ≤ most_message) × (length message ≤ n))

@@ -1,6 +1,7 @@
 -- The frames of a shard's entries, from a position on, and what was written of them.
 use Rattle.std.specs.Prelude.{◌≡◌, ◌≢◌, ◌<◌, ℕ, length, not, List, [], ◌∷◌, ◌++◌, Some, Result, Ok, Err, OnOk}
 use Rattle.std.specs.List.{filter}
+use Rattle.vs_base.specs.Limits.{most_intervals}
 use Rattle.vs_base.specs.declared.ShardName.{ShardName}
 use Rattle.vs_base.specs.declared.Gtid.{Gtid}
 use Rattle.vs_gtid.specs.declared.Entry.{Entry}
@@ -53,13 +54,13 @@ abbrev pub IsSent : ShardName → Position → Entry → Result (Unit {0}) SendE
 IsSent s p e (Ok x) w = (frame_bytes (next_frame s p e) ≡ Some w) × IsCanonical (added p e.gtid)
 IsSent s p e (Err LinkFault) w = (bytes : List ℕ) × (frame_bytes (next_frame s p e) ≡ Some bytes) × IsPrefixOf w bytes × IsCanonical (added p e.gtid)
 IsSent s p e (Err Memory) w = w ≡ []
-IsSent s p e (Err PositionTooLarge) w = (w ≡ []) × (1024 < length (added p e.gtid))
+IsSent s p e (Err PositionTooLarge) w = (w ≡ []) × (most_intervals < length (added p e.gtid))
 IsSent s p e (Err (NotBuilt at)) w = ⊥
 
 -- the position with the next GTID has over 1,024 intervals
 abbrev pub IsNextTooLarge : Position → List Entry → Type 0
 IsNextTooLarge p [] = ⊥
-IsNextTooLarge p (e ∷ rest) = 1024 < length (added p e.gtid)
+IsNextTooLarge p (e ∷ rest) = most_intervals < length (added p e.gtid)
 
 -- one of the entries makes a position of over 1,024 intervals, behind those before it
 abbrev pub IsTooLargeAlong : Position → List Entry → Type 0

@@ -1,6 +1,7 @@
 -- A frame is a message behind its length, in four bytes, the highest first.
 use Rattle.std.specs.Prelude.{◌≡◌, ℕ, ◌^◌, ◌<◌, ◌≤◌, ◌⊎◌, List, [], ◌∷◌, ◌++◌, length, All, Option, Some, None, Result, Ok, Err}
 use Rattle.std.specs.Int.{w32, to_be_bytes}
+use Rattle.vs_base.specs.Limits.{most_message}
 use Rattle.vs_frame.specs.declared.refusal.FrameRefusal.{FrameRefusal}
 use Rattle.vs_frame.specs.declared.refusal.FrameRefusal.TheVariants.{FrameTooLong, Memory}
 
@@ -14,7 +15,7 @@ frames_bytes (m ∷ ms) = framed m ++ frames_bytes ms
 
 -- at most 16 MiB
 abbrev pub IsWithinLimit : List ℕ → Type 0
-IsWithinLimit message = length message ≤ 16777216
+IsWithinLimit message = length message ≤ most_message
 
 -- the bytes begin with the frame of this message, and this is behind it
 abbrev pub Begins : List ℕ → List ℕ → List ℕ → Type 0
@@ -26,11 +27,11 @@ HasFrame bytes = (message : List ℕ) × (rest : List ℕ) × Begins bytes messa
 
 -- the bytes begin with a length over the limit
 abbrev pub IsTooLong : List ℕ → ℕ → Type 0
-IsTooLong bytes n = (16777216 < n) × (n < 2 ^ 32) × ((rest : List ℕ) × (bytes ≡ to_be_bytes w32 n ++ rest))
+IsTooLong bytes n = (most_message < n) × (n < 2 ^ 32) × ((rest : List ℕ) × (bytes ≡ to_be_bytes w32 n ++ rest))
 
 -- less than a frame: not all of a length, or a length within the limit and fewer bytes than it says
 abbrev pub IsPart : List ℕ → Type 0
-IsPart bytes = (length bytes < 4) ⊎ ((n : ℕ) × (rest : List ℕ) × (bytes ≡ to_be_bytes w32 n ++ rest) × (n ≤ 16777216) × (length rest < n))
+IsPart bytes = (length bytes < 4) ⊎ ((n : ℕ) × (rest : List ℕ) × (bytes ≡ to_be_bytes w32 n ++ rest) × (n ≤ most_message) × (length rest < n))
 
 -- ---- a framer
 

@@ -9,6 +9,7 @@ use Rattle.std.specs.Prelude.{◌++◌, ◌≡◌, ◌⊎◌, ◌≤◌, ◌<◌
 use Rattle.std.specs.List.{prefix_len}
 use Rattle.std.specs.Ordering.{nat_cmp, is_lt}
 use Rattle.std.specs.Cmp.Lexicographic.{pointwise, slice_cmp}
+use Rattle.vs_base.specs.Limits.{most_intervals}
 
 -- whether i stands before j in canonical order: its UUID is less, or it is the same and a number lies between them
 abbrev pub stands_before : Interval → Interval → Bool
@@ -45,7 +46,7 @@ place k p = prefix_len (λ (i : Interval). stands_before i k) p
 
 -- a set, where it has at most 1,024 intervals
 abbrev pub limited : Position → Result Position GtidRefusal
-limited p = if nat_lt 1024 (length p) then Err TooManyIntervals else Ok p
+limited p = if nat_lt most_intervals (length p) then Err TooManyIntervals else Ok p
 
 -- l begins no later than i: its UUID is less, or it is the same and its first number is no greater
 abbrev pub BeginsBy : Interval → Interval → Type 0

@@ -6,6 +6,7 @@ use Rattle.std.specs.List.{list_any}
 use Rattle.std.specs.Ordering.{nat_cmp}
 use Rattle.std.specs.Cmp.Lexicographic.{pointwise, slice_cmp}
 use Rattle.std.specs.declared.cmp.Ordering.TheVariants.{Less}
+use Rattle.vs_base.specs.Limits.{most_intervals}
 
 abbrev pub Position : Type 0
 Position = List Interval
@@ -50,4 +51,4 @@ IsCanonical (i ∷ rest) = IsInterval i × StandsBeforeFirst i rest × IsCanonic
 -- the intervals of a set: in the one order, and not too many
 pub record IsPosition (p : Position) : Type 0 where
   pub canonical : IsCanonical p
-  pub few : length p ≤ 1024
+  pub few : length p ≤ most_intervals

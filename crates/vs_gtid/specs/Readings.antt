@@ -2,6 +2,7 @@
 -- numbers, that before a set of too many intervals; of one kind the first from the left.
 use Rattle.std.specs.Prelude.{ℕ, ◌+◌, ◌-◌, ◌^◌, ◌≡◌, ◌≤◌, ◌<◌, ◌⊎◌, ◌==◌, nat_lt, List, [], ◌∷◌, ◌++◌, length, take, map, Option, Some, None, Result, Ok, Err, if◌then◌else◌}
 use Rattle.std.specs.Option.{option_or}
+use Rattle.vs_base.specs.Limits.{most_intervals}
 use Rattle.vs_base.specs.declared.gtid.Gtid.{Gtid}
 use Rattle.vs_gtid.specs.declared.interval.Interval.{Interval}
 use Rattle.vs_gtid.specs.declared.span.Span.{Span}
@@ -77,12 +78,12 @@ pub record HasSpans (p : Position) (spans : List Span) : Type 0 where
 
 -- what the text says
 abbrev pub Reads : List ℕ → Result Position GtidRefusal → Type 0
-Reads text (Ok p) = (spans : List Span) × AreLawful text spans × HasSpans p spans × (length p ≤ 1024)
+Reads text (Ok p) = (spans : List Span) × AreLawful text spans × HasSpans p spans × (length p ≤ most_intervals)
 Reads text (Err (BadText at)) = IsUnfit text at ⊎ IsOver text at
 Reads text (Err (ZeroNumber at)) = (spans : List Span) × IsInForm text spans × (first_place zero_at spans ≡ Some at)
 Reads text (Err (EmptyInterval at)) = (spans : List Span) × IsInForm text spans × (first_place zero_at spans ≡ None) × (first_place empty_at spans ≡ Some at)
 Reads text (Err (BadBlock at)) = ⊥
-Reads text (Err TooManyIntervals) = (spans : List Span) × AreLawful text spans × (p : Position) × HasSpans p spans × (1024 < length p)
+Reads text (Err TooManyIntervals) = (spans : List Span) × AreLawful text spans × (p : Position) × HasSpans p spans × (most_intervals < length p)
 Reads text (Err Memory) = ⊥
 
 -- the first fault of some spans, which go up to where the text stops to fit

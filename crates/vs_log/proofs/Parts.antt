@@ -1,9 +1,7 @@
 -- Less than an event is left where none is taken and nothing is wrong.
-use Rattle.std.proofs.Common.{◌≡◌, ◌≤◌, ◌<◌, ◌+◌, ◌&&◌, ℕ, Bool, true, false, List, length, nat_le, nat_lt, if◌then◌else◌, Option, Some, None, refl, sym, ◌∙◌, arith}
+use Rattle.std.proofs.Common.{◌≡◌, ◌≤◌, ◌+◌, ℕ, Bool, true, false, List, length, nat_lt, None, refl, sym, ◌∙◌, arith}
 use Rattle.std.specs.Prelude.{◌⊎◌}
 use Rattle.std.proofs.lemmas.Bool.{and_from, cases_lt, le-leb, ltb-false, ltb-true}
-use Rattle.vs_base.specs.declared.Why.{Why}
-use Rattle.vs_base.specs.declared.Why.TheVariants.{BadLength, TooLarge}
 use Rattle.vs_binlog.specs.Heads.{Event, length_of}
 use Rattle.vs_log.specs.declared.event.Sort.{Sort}
 use Rattle.vs_log.specs.declared.event.Sort.TheVariants.{AnonymousEvent, PassedOver, FormatEvent, PreviousEvent, GtidEvent, QueryEvent, XidEvent, MapEvent, RowsEvent, ForeignEvent}

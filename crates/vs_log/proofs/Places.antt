@@ -3,13 +3,14 @@ use Rattle.std.proofs.Common.{◌≡◌, ◌+◌, ◌||◌, ℕ, true, false, Li
 use Rattle.std.specs.Prelude.{◌⊎◌}
 use Rattle.std.specs.List.{AllByRecursion}
 use Rattle.std.proofs.lemmas.List.{append_cancel_left}
+use Rattle.std.proofs.Math.Bool.{or_comm}
 use Rattle.vs_base.specs.declared.Gtid.{Gtid}
 use Rattle.vs_base.specs.declared.Why.{Why}
 use Rattle.vs_base.specs.Names.{same_gtid}
 use Rattle.vs_base.proofs.NameLemmas.{same_gtid-refl}
 use Rattle.vs_gtid.specs.Positions.{Position, has}
 use Rattle.vs_gtid.specs.Joins.{added}
-use Rattle.vs_gtid.proofs.JoinLemmas.{has-added, or_turn}
+use Rattle.vs_gtid.proofs.JoinLemmas.{has-added}
 use Rattle.vs_log.specs.declared.event.Sort.TheVariants.{PassedOver, FormatEvent, PreviousEvent, GtidEvent, QueryEvent, XidEvent, MapEvent, RowsEvent}
 use Rattle.vs_log.specs.States.{Place}
 use Rattle.vs_log.specs.States.{State}
@@ -33,7 +34,7 @@ has_also : (known : Position) (g x : Gtid) → has known x ≡ true → has (add
 has_also known g x h = has-added known g x ∙ ap (λ b. b || same_gtid g x) h
 
 has_it : (known : Position) (g : Gtid) → has (added known g) g ≡ true
-has_it known g = has-added known g g ∙ or_turn (has known g) (same_gtid g g) ∙ ap (λ b. b || has known g) (same_gtid-refl g)
+has_it known g = has-added known g g ∙ or_comm (has known g) (same_gtid g g) ∙ ap (λ b. b || has known g) (same_gtid-refl g)
 
 -- so it stays known
 moves_know : {M : Type 0} (rules : Rules M) (s : State M) (e : Event) (place : Place M) (next : State M) (g : Gtid) → is_base_known place None ≡ true → Knows g s → Moves rules s e place next → Knows g next

@@ -1,6 +1,7 @@
 -- The laws that tie the table to the productions.
 use Rattle.std.specs.List.{AllByRecursion}
 use Rattle.std.specs.Prelude.{true, false, ◌≡◌, ◌≤◌, ◌<◌, ◌+◌, length, take, drop, map, ◌⊎◌, List, [], ◌∷◌, ◌++◌, Option, Some, None, Ok, Err, ℕ}
+use Rattle.vs_base.specs.Limits.{most_intervals}
 use Rattle.vs_base.specs.declared.Change.{Change}
 use Rattle.vs_base.specs.declared.Gtid.{Gtid}
 use Rattle.vs_base.specs.declared.Why.{Why}
@@ -82,7 +83,7 @@ pub record IsOfWholeLog {M : Type 0} (rules : Rules M) (bytes : List ℕ) : Type
 -- with each entry's GTID in turn the set has at most 1,024 intervals
 abbrev pub FitAlong : Position → List Entry → Type 0
 FitAlong p [] = Unit {0}
-FitAlong p (e ∷ es) = (length (added p e.gtid) ≤ 1024) × FitAlong (added p e.gtid) es
+FitAlong p (e ∷ es) = (length (added p e.gtid) ≤ most_intervals) × FitAlong (added p e.gtid) es
 
 -- no GTID of the log stands twice, or lies in the base; and the base with the entries up to each one isn't too large
 pub record HasNewGtids (log : Log) : Type 0 where

@@ -1,6 +1,7 @@
 -- Which bytes are a log, by productions over whole texts, and which are the beginning of one.
 use Rattle.std.specs.Prelude.{◌≡◌, ◌≤◌, ◌<◌, ◌⊎◌, ℕ, ◌+◌, Bool, true, false, List, [], ◌∷◌, ◌++◌, length, take, drop, Option, Some, None, Ok, Err, map}
 use Rattle.std.specs.List.{filter, AllByRecursion}
+use Rattle.vs_base.specs.Limits.{most_intervals}
 use Rattle.vs_base.specs.declared.Gtid.{Gtid}
 use Rattle.vs_base.specs.declared.Why.{Why}
 use Rattle.vs_base.specs.declared.Why.TheVariants.{BadMagic}
@@ -132,7 +133,7 @@ pub record IsEntry {M : Type 0} (rules : Rules M) (events : List Event) (e : Ent
 -- no GTID repeats one of the set, and the set with it isn't too large
 pub record IsNew (known : Position) (g : Gtid) : Type 0 where
   pub lacks : has known g ≡ false
-  pub few : length (added known g) ≤ 1024
+  pub few : length (added known g) ≤ most_intervals
 
 -- the entries that the groups of events are, behind the GTIDs known before them, and the GTIDs known behind them
 abbrev pub AreEntries : {M : Type 0} → Rules M → Position → List (List Event) → List Entry → Position → Type 0

@@ -20,6 +20,7 @@ use Rattle.vs_log.specs.States.{State}
 use Rattle.vs_log.specs.declared.event.Sort.{Sort}
 use Rattle.vs_log.specs.declared.event.Sort.TheVariants.{AnonymousEvent, PassedOver, FormatEvent, PreviousEvent, GtidEvent, QueryEvent, XidEvent, MapEvent, RowsEvent, ForeignEvent}
 use Rattle.std.specs.Prelude.{ℕ, ◌+◌, true, false, nat_lt, if◌then◌else◌, List, [], ◌∷◌, ◌++◌, length, Option, Some, None, Result, Ok, Err}
+use Rattle.vs_base.specs.Limits.{most_intervals}
 use Rattle.vs_binlog.specs.Heads.{Event, time_of, kind_of, length_of, body_of}
 use Rattle.vs_log.specs.Events.{sort_of, limit}
 
@@ -110,7 +111,7 @@ abbrev pub new_gtid : Position → List ℕ → Result Gtid Why
 new_gtid known body =
     gtid_in body >>= λ g.
     if has known g then Err (RepeatedGtid g)
-    else if nat_lt 1024 (length (added known g)) then Err TooManyIntervals
+    else if nat_lt most_intervals (length (added known g)) then Err TooManyIntervals
     else Ok g
 
 -- it begins an entry

@@ -1,6 +1,7 @@
 -- What a recording says: frames to its end, or to the first that is none, and the lines of these frames.
 use Rattle.std.specs.Prelude.{◌≡◌, ℕ, zero, suc, ◌+◌, ◌==◌, nat_lt, if◌then◌else◌, List, [], ◌∷◌, ◌++◌, length, take, drop, Option, Some, None, Result, Ok, Err, true, ◌<◌}
 use Rattle.std.specs.Int.{w32, from_be_bytes}
+use Rattle.vs_base.specs.Limits.{most_message}
 use Rattle.vs_frame.specs.Frames.{Begins, IsGiven, IsPart, IsTooLong}
 use Rattle.vs_frame.specs.declared.refusal.FrameWhy.{FrameWhy}
 use Rattle.vs_frame.specs.declared.refusal.FrameWhy.TheVariants.{Cut, TooLong, Message}
@@ -55,7 +56,7 @@ pub data Front : Type 0 where
 
 -- behind a length
 abbrev pub front_behind : ℕ → List ℕ → Front
-front_behind n rest = if nat_lt 16777216 n then too_long else (if nat_lt (length rest) n then part else whole (take n rest) (drop n rest))
+front_behind n rest = if nat_lt most_message n then too_long else (if nat_lt (length rest) n then part else whole (take n rest) (drop n rest))
 
 -- what stands at the front of the bytes: a whole frame comes with its message and what is behind it
 unfoldable pub front : List ℕ → Front
