@@ -15,7 +15,7 @@ use Rattle.vs_command.specs.declared.start.Start.TheVariants.{At, Current}
 use Rattle.vs_command.specs.declared.status.Status.{Status}
 use Rattle.vs_command.specs.declared.status.Status.TheVariants as statuses
 use Rattle.vs_command.specs.Built.{AreBuilt, IsBuilt, built_front, first_unbuilt}
-use Rattle.vs_command.specs.Causes.{CanBeSent, EndsAt, EndsWith, HoldsBase, LogAsksFor}
+use Rattle.vs_command.specs.Causes.{CanBeSent, StreamEndsAt, EndsWith, HoldsBase, LogAsksFor}
 use Rattle.vs_command.specs.Sending.{IsTooLargeAlong, StopsAtUnbuilt, lacking}
 use Rattle.vs_command.specs.Streaming.{IsStart, IsUnbuiltFromEnd}
 use Rattle.vs_command.proofs.BuiltLemmas.{front-all, kept, none-unbuilt}
@@ -62,7 +62,7 @@ pub asks_unbuilt : (stands : Gtid → ℕ → Type 0) (s : ShardName) (log : Log
 asks_unbuilt stands s log (At set) whole p offset at base built ((e, first, there), fit) = (
   refl,
   can_be_sent log (At set) whole p at base fit,
-  subst (λ q. EndsWith stands log (At q) (Some (offset, NotBuilt))) at.is_start (subst (λ o. EndsAt stands log.fault o (Some (offset, NotBuilt))) (sym first) (offset, there, refl)),
+  subst (λ q. EndsWith stands log (At q) (Some (offset, NotBuilt))) at.is_start (subst (λ o. StreamEndsAt stands log.fault o (Some (offset, NotBuilt))) (sym first) (offset, there, refl)),
 )
 asks_unbuilt stands s log Current whole p offset at base built ((e, first, there), fit) =
     let clash : ◌≡◌ {A = Option Entry} (Some e) None = sym first ∙ none-unbuilt (lacking p log.entries) (lacking_built p log.entries (built refl)) in
@@ -74,15 +74,15 @@ pub asks_unbuilt_from_end : (stands : Gtid → ℕ → Type 0) (s : ShardName) (
 asks_unbuilt_from_end stands s log start offset (current, (e, first, there)) = subst (λ x. LogAsksFor stands s log x (statuses.BadLog s offset NotBuilt)) (sym current) (
   refl,
   record { base = tt; room = tt },
-  subst (λ o. EndsAt stands log.fault o (Some (offset, NotBuilt))) (sym first) (offset, there, refl),
+  subst (λ o. StreamEndsAt stands log.fault o (Some (offset, NotBuilt))) (sym first) (offset, there, refl),
 )
 
 -- where each entry that counts is built, the log's own fault ends the stream
 ends_own : (stands : Gtid → ℕ → Type 0) (log : Log) (start : Start) (whole : Type 0) (p : Position) (fault : Option (ℕ × Why)) → StartsAt log start whole p → AreBuilt (lacking p log.entries) →
     (start ≡ Current → AreBuilt log.entries) → log.fault ≡ fault → EndsWith stands log start fault
 ends_own stands log (At set) whole p fault at built all own =
-    subst (λ q. EndsWith stands log (At q) fault) at.is_start (subst (λ o. EndsAt stands log.fault o fault) (sym (none-unbuilt (lacking p log.entries) built)) (sym own))
-ends_own stands log Current whole p fault at built all own = subst (λ o. EndsAt stands log.fault o fault) (sym (none-unbuilt log.entries (all refl))) (sym own)
+    subst (λ q. EndsWith stands log (At q) fault) at.is_start (subst (λ o. StreamEndsAt stands log.fault o fault) (sym (none-unbuilt (lacking p log.entries) built)) (sym own))
+ends_own stands log Current whole p fault at built all own = subst (λ o. StreamEndsAt stands log.fault o fault) (sym (none-unbuilt log.entries (all refl))) (sym own)
 
 -- all that was due was sent
 record AllSent (log : Log) (start : Start) (whole : Type 0) (p : Position) : Type 0 where
@@ -120,7 +120,7 @@ due_end stands s log start whole p status at base built all fit end = asks_end s
 
 -- ---- the same, by what is said of where GTID events stand
 
-EndsAt-weaken : (P Q : Gtid → ℕ → Type 0) (own : Option (ℕ × Why)) (first : Option Entry) (fault : Option (ℕ × Why)) → ((g : Gtid) (at : ℕ) → P g at → Q g at) → EndsAt P own first fault → EndsAt Q own first fault
+EndsAt-weaken : (P Q : Gtid → ℕ → Type 0) (own : Option (ℕ × Why)) (first : Option Entry) (fault : Option (ℕ × Why)) → ((g : Gtid) (at : ℕ) → P g at → Q g at) → StreamEndsAt P own first fault → StreamEndsAt Q own first fault
 EndsAt-weaken P Q own None fault f ends = ends
 EndsAt-weaken P Q own (Some e) fault f (at, there, is) = (at, f e.gtid at there, is)
 

@@ -30,10 +30,10 @@ use Rattle.vs_command.specs.declared.status.Status.{Status}
 use Rattle.vs_command.specs.declared.status.Status.TheVariants.{Done, Memory, Usage, Request, UnknownShard, Purged, BadLog, FeedFault, LinkFault, InputFault, OpenFault, PositionTooLarge, BadSchema, BadFrame}
 use Rattle.vs_command.specs.declared.fetched.Fetched.{Fetched}
 use Rattle.vs_command.specs.Built.{built_front, first_unbuilt}
-use Rattle.vs_command.specs.Causes.{AnswersLog, AsksByItsLog, CanBeSent, EndsAt, EndsWith, HasRead, HoldsBase, IsDue, IsOutside, LogAsksFor, ShardAsksFor, counted}
+use Rattle.vs_command.specs.Causes.{AnswersLog, AsksByItsLog, CanBeSent, StreamEndsAt, EndsWith, HasRead, HoldsBase, IsDue, IsOutside, LogAsksFor, ShardAsksFor, counted}
 use Rattle.vs_command.specs.Fetched.{IsFetchedOf, IsOfShard, IsPlaced, read_as}
 use Rattle.vs_command.specs.Laws.{Laws}
-use Rattle.vs_command.specs.Requests.{Asks, IsFaultOf, IsFrame, TakesOf}
+use Rattle.vs_command.specs.Requests.{Asks, IsFaultOf, IsRequestFrame, TakesOf}
 use Rattle.vs_command.specs.Sending.{IsTooLargeAlong}
 use Rattle.vs_command.specs.Stages.{HasSchema, IsBrought, IsBroughtOf, IsBroughtOn}
 use Rattle.vs_command.specs.Streaming.{HasBadSchema, IsOfStream, shard_log, shard_places, shard_rules}
@@ -103,7 +103,7 @@ same_at start p q a b = let same : ◌≡◌ {A = Start} (At p) (At q) = sym a �
 abbrev StandsOnce : (Gtid → ℕ → Type 0) → Type 0
 StandsOnce stands = (g : Gtid) (at other : ℕ) → stands g at → stands g other → at ≡ other
 
-one_end : (stands : Gtid → ℕ → Type 0) → StandsOnce stands → (own : Option (ℕ × Why)) (first : Option Entry) (a b : Option (ℕ × Why)) → EndsAt stands own first a → EndsAt stands own first b → a ≡ b
+one_end : (stands : Gtid → ℕ → Type 0) → StandsOnce stands → (own : Option (ℕ × Why)) (first : Option Entry) (a b : Option (ℕ × Why)) → StreamEndsAt stands own first a → StreamEndsAt stands own first b → a ≡ b
 one_end stands once own None a b is too = is ∙ sym too
 one_end stands once own (Some e) a b (m, here, is) (n, there, too) = is ∙ ap (λ k. Some (k, NotBuilt)) (once e.gtid m n here there) ∙ sym too
 
@@ -366,7 +366,7 @@ due_unknown None s start none = tt
 due_unknown (Some c) s start none = ◌⊎◌.inr (subst (λ o. ShardAsksFor o s start (UnknownShard s)) (sym none) refl)
 
 -- what was taken where a stream was asked for
-pub has_read : (before now : Option (List ℕ)) (status : Status) → IsOfStream status → TakesOf before now (λ taken rest. IsFrame taken) → HasRead before now status
+pub has_read : (before now : Option (List ℕ)) (status : Status) → IsOfStream status → TakesOf before now (λ taken rest. IsRequestFrame taken) → HasRead before now status
 has_read before now Done kind took = took
 has_read before now Memory kind took = tt
 has_read before now Usage kind took = absurd kind

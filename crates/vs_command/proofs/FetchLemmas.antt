@@ -22,7 +22,7 @@ use Rattle.vs_log.specs.Productions.{StandsAt}
 use Rattle.vs_rows.specs.Tables.{Tables}
 use Rattle.vs_log.specs.Table.{Rules}
 use Rattle.vs_entries.specs.Rules.{rules_of}
-use Rattle.vs_entries.specs.Pieces.{Fed, Gives, fresh, log_fed, rules_fed, with_piece}
+use Rattle.vs_entries.specs.Pieces.{Fed, GivesEntry, fresh, log_fed, rules_fed, with_piece}
 use Rattle.vs_entries.specs.declared.took.Took.TheVariants as took
 use Rattle.vs_command.specs.declared.fetched.Fetched.{Fetched}
 use Rattle.vs_command.specs.declared.fetched.LogFault.{LogFault}
@@ -57,14 +57,14 @@ HasGiven-fed law r piece at from placed h =
     }
 
 -- each entry that is given leaves fewer
-pub fewer_left : (r new : Fed) (e : Entry) (at end : ℕ) → Gives r (Ok (took.Entry e at end)) new → length (log_fed new).entries - new.given < length (log_fed r).entries - r.given
+pub fewer_left : (r new : Fed) (e : Entry) (at end : ℕ) → GivesEntry r (Ok (took.Entry e at end)) new → length (log_fed new).entries - new.given < length (log_fed r).entries - r.given
 fewer_left r new e at end (unspent, behind, stands, ends, is) =
     subst (λ (x : Fed). length (log_fed x).entries - x.given < length (log_fed r).entries - r.given) (sym is)
     (omega (arith, behind.count, ap (λ es. length es) behind.are, length-append behind.before (e ∷ behind.later)))
 
 -- ---- one entry more
 
-pub HasGiven-more : (r new : Fed) (placed : List Placed) (e : Entry) (at end : ℕ) → HasGiven r placed → Gives r (Ok (took.Entry e at end)) new → HasGiven new (placed ++ record { entry = e; at = at } ∷ [])
+pub HasGiven-more : (r new : Fed) (placed : List Placed) (e : Entry) (at end : ℕ) → HasGiven r placed → GivesEntry r (Ok (took.Entry e at end)) new → HasGiven new (placed ++ record { entry = e; at = at } ∷ [])
 HasGiven-more r new placed e at end h (unspent, behind, stands, ends, is) = subst (λ x. HasGiven x (placed ++ t ∷ [])) (sym is) (record {
   count = length-append placed (t ∷ []) ∙ ap (λ n. n + 1) h.count ∙ one_more;
   within = omega (arith, behind.count, ap (λ es. length es) behind.are, length-append behind.before (e ∷ behind.later));
@@ -86,7 +86,7 @@ HasGiven-more r new placed e at end h (unspent, behind, stands, ends, is) = subs
         ap (λ n. take n (log_fed r).entries) (let n : suc r.given ≡ length behind.before + 1 = omega (arith, behind.count) in n)
         ∙ ap (λ es. take (length behind.before + 1) es) behind.are ∙ take-append-add behind.before (e ∷ behind.later) 1
 
-pub IsSameLog-more : (a r new : Fed) (e : Entry) (at end : ℕ) → IsSameLog a r → Gives r (Ok (took.Entry e at end)) new → IsSameLog a new
+pub IsSameLog-more : (a r new : Fed) (e : Entry) (at end : ℕ) → IsSameLog a r → GivesEntry r (Ok (took.Entry e at end)) new → IsSameLog a new
 IsSameLog-more a r new e at end same (unspent, behind, stands, ends, is) = subst (λ x. IsSameLog a x) (sym is) (record { keyspace = same.keyspace; schema = same.schema; bytes = same.bytes })
 
 -- the last one was given

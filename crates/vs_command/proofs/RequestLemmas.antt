@@ -4,7 +4,7 @@ use Rattle.std.proofs.lemmas.List.{length-take}
 use Rattle.std.specs.Prelude.{IfSome, IsTrue, ◌⊎◌, ◌||◌, nat_le}
 use Rattle.std.specs.List.{AllByRecursion, list_all}
 use Rattle.std.specs.Int.{w32, to_be_bytes}
-use Rattle.vs_frame.specs.Frames.{Begins, IsPart, IsWithinLimit, framed}
+use Rattle.vs_frame.specs.Frames.{BeginsWithFrame, IsPart, IsWithinLimit, framed}
 use Rattle.vs_outside.specs.Told.{Takes}
 use Rattle.vs_base.specs.Names.{FitsName}
 use Rattle.vs_outside.specs.Names.{has_name_length, is_dots, is_keyspace_text, is_name_byte, is_shard_byte, is_shard_text}
@@ -21,7 +21,7 @@ use Rattle.vs_request.specs.declared.request.Request.{Request}
 use Rattle.vs_request.specs.declared.request.Wanted.{Wanted}
 use Rattle.vs_base.specs.declared.ShardName.{ShardName}
 use Rattle.vs_command.specs.declared.start.Start.{Start}
-use Rattle.vs_command.specs.Requests.{Asks, HasEnded, HasTaken, IsFaultOf, IsFaultOfMessage, IsFrame, IsNotBuilt, IsPlain, IsUnbuilt, IsWithinFrame, SaysLength, TakesOf, end_of, entry_of, has_no_flags, no_flags}
+use Rattle.vs_command.specs.Requests.{Asks, HasEnded, HasTaken, IsFaultOf, IsFaultOfMessage, IsRequestFrame, IsNotBuilt, IsPlain, IsUnbuilt, IsWithinFrame, SaysLength, TakesOf, end_of, entry_of, has_no_flags, no_flags}
 
 -- nothing taken
 pub TakesOf-none : (P : List ℕ → List ℕ → Type 0) (told : Option (List ℕ)) → ((rest : List ℕ) → told ≡ Some rest → P [] rest) → TakesOf told told P
@@ -257,10 +257,10 @@ asks_of before now m name start took says =
     TakesOf-all (λ taken left. (taken ≡ framed m) × IsWithinLimit m) (λ input. Asks input name start) before now
     (λ taken rest t. (says.0, (m, rest, (ap (λ l. l ++ rest) t.0, t.1), says.1), says.2)) took
 
-pub took_frame : (before now : Option (List ℕ)) (m : List ℕ) → TakesOf before now (λ taken left. (taken ≡ framed m) × IsWithinLimit m) → TakesOf before now (λ taken rest. IsFrame taken)
-took_frame before now m took = TakesOf-weaken (λ taken left. (taken ≡ framed m) × IsWithinLimit m) (λ taken rest. IsFrame taken) before now (λ taken rest t. (m, t.0, t.1)) took
+pub took_frame : (before now : Option (List ℕ)) (m : List ℕ) → TakesOf before now (λ taken left. (taken ≡ framed m) × IsWithinLimit m) → TakesOf before now (λ taken rest. IsRequestFrame taken)
+took_frame before now m took = TakesOf-weaken (λ taken left. (taken ≡ framed m) × IsWithinLimit m) (λ taken rest. IsRequestFrame taken) before now (λ taken rest t. (m, t.0, t.1)) took
 
-begins_with : (input : List ℕ) (fault : RequestFault) (m rest : List ℕ) → Begins input m rest → IsFaultOfMessage m fault → IsFaultOf input fault
+begins_with : (input : List ℕ) (fault : RequestFault) (m rest : List ℕ) → BeginsWithFrame input m rest → IsFaultOfMessage m fault → IsFaultOf input fault
 begins_with input (Cut held) m rest begins is = absurd is
 begins_with input (TooLong n) m rest begins is = absurd is
 begins_with input (Message why) m rest begins is = (m, rest, begins, is)
@@ -274,7 +274,7 @@ begins_with input (LongKey index) m rest begins is = (m, rest, begins, is)
 begins_with input (TooManyRules n) m rest begins is = (m, rest, begins, is)
 begins_with input (NotBuilt index) m rest begins is = (m, rest, begins, is)
 
-taken_of : (fault : RequestFault) (m taken rest : List ℕ) → IsFaultOfMessage m fault → IsFrame taken → HasTaken fault taken rest
+taken_of : (fault : RequestFault) (m taken rest : List ℕ) → IsFaultOfMessage m fault → IsRequestFrame taken → HasTaken fault taken rest
 taken_of (Cut held) m taken rest is frame = absurd is
 taken_of (TooLong n) m taken rest is frame = absurd is
 taken_of (Message why) m taken rest is frame = frame

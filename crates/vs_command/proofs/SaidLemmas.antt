@@ -17,7 +17,7 @@ use Rattle.vs_command.specs.declared.start.Start.TheVariants.{At, Current}
 use Rattle.vs_command.specs.declared.status.RequestFault.{RequestFault}
 use Rattle.vs_command.specs.declared.status.RequestFault.TheVariants.{Cut, TooLong, Message, NoShards, TooManyShards, BadName, BadPosition, NeedsShard, TooManyKeys, LongKey, TooManyRules, NotBuilt}
 use Rattle.vs_command.specs.Laws.{Laws}
-use Rattle.vs_command.specs.Requests.{Asks, BeginsWith, IsFaultOf, IsNotBuilt, IsPlain, end_of, entry_of, start_of}
+use Rattle.vs_command.specs.Requests.{Asks, BeginsWithRequest, IsFaultOf, IsNotBuilt, IsPlain, end_of, entry_of, start_of}
 
 -- ---- what an input says
 
@@ -30,7 +30,7 @@ data Said : Type 0 where
 abbrev SaidBy : List ℕ → Said → Type 0
 SaidBy input (cuts held) = IsPart input × (held ≡ length input)
 SaidBy input (long n) = IsTooLong input n
-SaidBy input (says said) = BeginsWith input said
+SaidBy input (says said) = BeginsWithRequest input said
 
 said_once : Laws → (input : List ℕ) (a b : Said) → SaidBy input a → SaidBy input b → a ≡ b
 said_once laws input (cuts h) (cuts k) p q = ap (λ n. cuts n) (p.1 ∙ sym q.1)
@@ -58,7 +58,7 @@ record HasFault (input : List ℕ) (fault : RequestFault) : Type 0 where
   pub is : SaidBy input said
   pub brings : Brings said fault
 
-refused_by : (input : List ℕ) (refusal : RequestRefusal) (fault : RequestFault) → end_of refusal ≡ ends.Fault fault → BeginsWith input (Err refusal) → HasFault input fault
+refused_by : (input : List ℕ) (refusal : RequestRefusal) (fault : RequestFault) → end_of refusal ≡ ends.Fault fault → BeginsWithRequest input (Err refusal) → HasFault input fault
 refused_by input refusal fault is begins = record { said = says (Err refusal); is = begins; brings = is }
 
 fault_said : (input : List ℕ) (fault : RequestFault) → IsFaultOf input fault → HasFault input fault
@@ -109,7 +109,7 @@ one_plain request n m s t p q =
     let head = one_entry (entry_of n s) (entry_of m t) (sym p.entries ∙ q.entries) in
     (name_of_parts n m (ap (λ (w : Wanted). w.keyspace) head) (ap (λ (w : Wanted). w.shard) head), one_start s t (ap (λ (w : Wanted). w.start) head))
 
-same_request : Laws → (input : List ℕ) (a b : Request) → BeginsWith input (Ok a) → BeginsWith input (Ok b) → a ≡ b
+same_request : Laws → (input : List ℕ) (a b : Request) → BeginsWithRequest input (Ok a) → BeginsWithRequest input (Ok b) → a ≡ b
 same_request laws input a b p q = let same = said_once laws input (says (Ok a)) (says (Ok b)) p q in cc
 
 pub asks_once : Laws → (input : List ℕ) (n m : ShardName) (s t : Start) → Asks input n s → Asks input m t → (n ≡ m) × (s ≡ t)

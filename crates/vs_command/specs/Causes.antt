@@ -18,7 +18,7 @@ use Rattle.vs_command.specs.declared.start.Start.TheVariants.{At, Current}
 use Rattle.vs_command.specs.declared.status.Status.{Status}
 use Rattle.vs_command.specs.declared.status.Status.TheVariants.{Done, Memory, Usage, Request, UnknownShard, Purged, BadLog, FeedFault, LinkFault, InputFault, OpenFault, PositionTooLarge, BadSchema, BadFrame}
 use Rattle.vs_command.specs.Built.{built_front, first_unbuilt}
-use Rattle.vs_command.specs.Requests.{Asks, HasTaken, IsFaultOf, IsFrame, TakesOf}
+use Rattle.vs_command.specs.Requests.{Asks, HasTaken, IsFaultOf, IsRequestFrame, TakesOf}
 use Rattle.vs_command.specs.Sending.{IsTooLargeAlong}
 use Rattle.vs_command.specs.Streaming.{shard_log, shard_places}
 
@@ -50,12 +50,12 @@ counted log (At p) = after log p
 counted log Current = log.entries
 
 -- what ends a stream of a log: the first entry that counts and isn't built, at the place of its GTID event; where each is built, the log's own fault
-abbrev pub EndsAt : (Gtid → ℕ → Type 0) → Option (ℕ × Why) → Option Entry → Option (ℕ × Why) → Type 0
-EndsAt stands own None fault = fault ≡ own
-EndsAt stands own (Some e) fault = (at : ℕ) × stands e.gtid at × (fault ≡ Some (at, NotBuilt))
+abbrev pub StreamEndsAt : (Gtid → ℕ → Type 0) → Option (ℕ × Why) → Option Entry → Option (ℕ × Why) → Type 0
+StreamEndsAt stands own None fault = fault ≡ own
+StreamEndsAt stands own (Some e) fault = (at : ℕ) × stands e.gtid at × (fault ≡ Some (at, NotBuilt))
 
 abbrev pub EndsWith : (Gtid → ℕ → Type 0) → Log → Start → Option (ℕ × Why) → Type 0
-EndsWith stands log start fault = EndsAt stands log.fault (first_unbuilt (counted log start)) fault
+EndsWith stands log start fault = StreamEndsAt stands log.fault (first_unbuilt (counted log start)) fault
 
 -- No due entry before one that isn't built makes a position that is too large. From the log's end none does.
 abbrev pub HasRoom : Log → Start → Type 0
@@ -124,4 +124,4 @@ HasRead before now Usage = now ≡ before
 HasRead before now Memory = Unit {0}
 HasRead before now InputFault = Unit {0}
 HasRead before now (Request fault) = TakesOf before now (HasTaken fault)
-HasRead before now status = TakesOf before now (λ taken rest. IsFrame taken)
+HasRead before now status = TakesOf before now (λ taken rest. IsRequestFrame taken)

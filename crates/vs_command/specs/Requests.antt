@@ -3,7 +3,7 @@ use Rattle.std.specs.Prelude.{◌≡◌, ◌≢◌, ◌≤◌, ◌<◌, ◌+◌,
 use Rattle.std.specs.Int.{w32, to_be_bytes}
 use Rattle.vs_base.specs.Limits.{most_message}
 use Rattle.vs_base.specs.declared.ShardName.{ShardName}
-use Rattle.vs_frame.specs.Frames.{Begins, IsPart, IsTooLong, IsWithinLimit, framed}
+use Rattle.vs_frame.specs.Frames.{BeginsWithFrame, IsPart, IsTooLong, IsWithinLimit, framed}
 use Rattle.vs_request.specs.Requests.{Says}
 use Rattle.vs_request.specs.declared.request.Flags.{Flags}
 use Rattle.vs_request.specs.declared.request.Request.{Request}
@@ -25,8 +25,8 @@ TakesOf None now P = Unit {0}
 TakesOf (Some before) now P = (taken rest : List ℕ) × (before ≡ taken ++ rest) × (now ≡ Some rest) × P taken rest
 
 -- the input begins with a frame whose message says this
-abbrev pub BeginsWith : List ℕ → Result Request RequestRefusal → Type 0
-BeginsWith input said = (message rest : List ℕ) × Begins input message rest × Says message said
+abbrev pub BeginsWithRequest : List ℕ → Result Request RequestRefusal → Type 0
+BeginsWithRequest input said = (message rest : List ℕ) × BeginsWithFrame input message rest × Says message said
 
 -- no time to skew by or to beat at, and no word on journals
 abbrev pub no_flags : Flags
@@ -59,7 +59,7 @@ IsNotBuilt request index =
 
 -- The input begins with a frame that asks for this shard, from this start.
 abbrev pub Asks : List ℕ → ShardName → Start → Type 0
-Asks input name start = (request : Request) × BeginsWith input (Ok request) × IsPlain request name start
+Asks input name start = (request : Request) × BeginsWithRequest input (Ok request) × IsPlain request name start
 
 -- What is wrong with a message: it has a fault, or what it asks for isn't built.
 abbrev pub IsFaultOfMessage : List ℕ → RequestFault → Type 0
@@ -78,7 +78,7 @@ IsFaultOfMessage message (NotBuilt index) = (request : Request) × Says message 
 
 -- the input begins with a frame whose message has this fault
 abbrev pub BeginsWithFault : List ℕ → RequestFault → Type 0
-BeginsWithFault input fault = (message rest : List ℕ) × Begins input message rest × IsFaultOfMessage message fault
+BeginsWithFault input fault = (message rest : List ℕ) × BeginsWithFrame input message rest × IsFaultOfMessage message fault
 
 -- What is wrong with the input: it ends before a frame is whole, its length is too long, or the message of its first frame has a fault.
 abbrev pub IsFaultOf : List ℕ → RequestFault → Type 0
@@ -109,8 +109,8 @@ abbrev pub SaysLength : List ℕ → ℕ → Type 0
 SaysLength bytes n = (n < 2 ^ 32) × (rest : List ℕ) × (bytes ≡ to_be_bytes w32 n ++ rest) × (length rest + 4 ≡ length bytes)
 
 -- just a frame
-abbrev pub IsFrame : List ℕ → Type 0
-IsFrame taken = (message : List ℕ) × (taken ≡ framed message) × IsWithinLimit message
+abbrev pub IsRequestFrame : List ℕ → Type 0
+IsRequestFrame taken = (message : List ℕ) × (taken ≡ framed message) × IsWithinLimit message
 
 -- what was taken where no frame is there: all, of which is less than a frame; or the length that is too long, and no byte behind it
 abbrev pub HasEnded : RequestFault → List ℕ → List ℕ → Type 0
@@ -122,7 +122,7 @@ HasEnded fault taken rest = ⊥
 abbrev pub HasTaken : RequestFault → List ℕ → List ℕ → Type 0
 HasTaken (Cut held) taken rest = rest ≡ []
 HasTaken (TooLong n) taken rest = length taken ≡ 4
-HasTaken fault taken rest = IsFrame taken
+HasTaken fault taken rest = IsRequestFrame taken
 
 -- No byte behind the frame at the front was taken: no more than its length, in four bytes; or these, and no more bytes behind them than they say, which is at most 16 MiB.
 abbrev pub IsWithinFrame : List ℕ → Type 0

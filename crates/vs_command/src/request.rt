@@ -27,7 +27,7 @@ ghost use Rattle.vs_command.specs.Requests.{
   HasTaken,
   IsFaultOf,
   IsFaultOfMessage,
-  IsFrame,
+  IsRequestFrame,
   IsNotBuilt,
   IsPlain,
   IsUnbuilt,
@@ -231,7 +231,7 @@ fn read_message(alloc: Global, message: &[u8]) -> Result<Asked, RequestEnd>
 /// Reads the frame at the front of the input, and what its message asks for.
 pub fn read_request<I: Source>(alloc: Global, input: &mut I) -> Result<Asked, RequestEnd>
     ensures asks { IfOk result (λ asked. IfSome (I.left input.old) (λ bytes. Asks bytes asked.name asked.start)) }
-    ensures took { IfOk result (λ _. TakesOf (I.left input.old) (I.left input.new) (λ taken rest. IsFrame taken)) }
+    ensures took { IfOk result (λ _. TakesOf (I.left input.old) (I.left input.new) (λ taken rest. IsRequestFrame taken)) }
     ensures fault { (fault : RequestFault) → result ≡ Err (RequestEnd.Fault fault) → IfSome (I.left input.old) (λ bytes. IsFaultOf bytes fault) }
     ensures took_of_fault { (fault : RequestFault) → result ≡ Err (RequestEnd.Fault fault) → TakesOf (I.left input.old) (I.left input.new) (HasTaken fault) }
     ensures within { Takes (I.left input.old) (I.left input.new) IsWithinFrame }

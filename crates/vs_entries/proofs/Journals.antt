@@ -22,7 +22,7 @@ use Rattle.vs_binlog.specs.Words.{first_word}
 use Rattle.vs_entries.specs.Queries.{statement_of, statement_by, said, is_ddl, word_begin, word_commit, word_savepoint, word_xa}
 use Rattle.vs_log.specs.Table.{single_work}
 use Rattle.vs_log.specs.Meaning.{log_meant}
-use Rattle.vs_log.specs.Productions.{AreEntries, Begins, IsMiddle, IsSingle, IsTransaction, IsWork, Means}
+use Rattle.vs_log.specs.Productions.{AreEntries, BeginsLog, IsMiddle, IsSingle, IsTransaction, IsWork, Means}
 use Rattle.vs_schema.specs.declared.schema.Schema.{Schema}
 use Rattle.vs_rows.specs.declared.refusal.RowRefusal.{RowRefusal}
 use Rattle.vs_rows.specs.declared.outcome.RowsOf.{RowsOf}
@@ -128,7 +128,7 @@ of_entries keyspace schema known after (group ∷ groups) [] a = elim a [ ]
 of_entries keyspace schema known after (group ∷ groups) (e ∷ es) a =
     (of_form keyspace schema group e a.0.form, of_entries keyspace schema (added known e.gtid) after groups es a.2)
 
-of_state : (keyspace : List ℕ) (schema : Schema) (events : List Event) (s : State Tables) → Begins (rules_of keyspace schema) events s → AreNoJournals s.entries
+of_state : (keyspace : List ℕ) (schema : Schema) (events : List Event) (s : State Tables) → BeginsLog (rules_of keyspace schema) events s → AreNoJournals s.entries
 of_state keyspace schema [] s b = subst (λ z. AreNoJournals z.entries) (sym b) tt
 of_state keyspace schema (e ∷ events) s b = of_entries keyspace schema s.base b.known b.log.groups s.entries b.log.are_entries
 

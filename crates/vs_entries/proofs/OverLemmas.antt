@@ -13,7 +13,7 @@ use Rattle.vs_log.specs.Meaning.{log_meant}
 use Rattle.vs_log.specs.Steps.{Reaches, next_state}
 use Rattle.vs_log.specs.Table.{Rules}
 use Rattle.vs_entries.specs.Laws.{LogLaws}
-use Rattle.vs_entries.specs.Pieces.{Fed, Gives, log_fed}
+use Rattle.vs_entries.specs.Pieces.{Fed, GivesEntry, log_fed}
 use Rattle.vs_entries.specs.Reading.{is_early, place_of, state_of, with_entries}
 use Rattle.vs_entries.specs.Rules.{rules_of}
 use Rattle.vs_entries.specs.Walks.{IsBack, IsBegunAt, IsFresh, IsOver, IsStuck, IsWalk, KeepsFault, ReadsTo, Stands, Tells}
@@ -179,7 +179,7 @@ fault_fed laws rules old mid new piece given now fault same is n k =
 
 -- a fault is told, or that memory ran out
 pub tells_fault : (old : Fed) (at : ℕ) (fault : Fault) (refusal : LogRefusal) (spent : Bool) → old.spent ≡ false → old.given ≡ length (log_fed old).entries → (log_fed old).fault ≡ Some (fault.offset, fault.why) →
-    Tells fault old.spent refusal spent → Gives old (Err refusal) (record old { at = at; spent = spent })
+    Tells fault old.spent refusal spent → GivesEntry old (Err refusal) (record old { at = at; spent = spent })
 tells_fault old at fault (BadLog offset why) spent s g f t =
     (s, g, f ∙ ap (λ z. Some (z, fault.why)) (sym t.0) ∙ ap (λ z. Some (offset, z)) (sym t.1), ap (λ z. record old { at = at; spent = z }) t.2)
 tells_fault old at fault Memory spent s g f t = ap (λ z. record old { at = at; spent = z }) t

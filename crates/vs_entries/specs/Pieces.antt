@@ -52,11 +52,11 @@ pub record IsBehind (n : ℕ) (entries : List Entry) (e : Entry) : Type 0 where
 
 -- The entry behind those that were given, with the place of its GTID event, and that where the entry ends, up to which the events are taken. Behind the last one: more is wanted, where nothing is wrong, and less than an event is left; else the fault, which stays.
 -- Once memory ran out, it is told each time.
-abbrev pub Gives : Fed → Result Took LogRefusal → Fed → Type 0
-Gives old (Ok (took.Entry e at end)) new =
+abbrev pub GivesEntry : Fed → Result Took LogRefusal → Fed → Type 0
+GivesEntry old (Ok (took.Entry e at end)) new =
     (old.spent ≡ false) × IsBehind old.given (log_fed old).entries e × StandsAt (rules_fed old) old.bytes e.gtid at × EntryEndsAt (rules_fed old) old.bytes old.given end
     × (new ≡ record old { given = suc old.given; at = end })
-Gives old (Ok took.More) new =
+GivesEntry old (Ok took.More) new =
     (old.spent ≡ false) × (old.given ≡ length (log_fed old).entries) × ((log_fed old).fault ≡ None) × IsPart (drop new.at old.bytes) × (new ≡ record old { at = new.at })
-Gives old (Err (BadLog offset why)) new = (old.spent ≡ false) × (old.given ≡ length (log_fed old).entries) × ((log_fed old).fault ≡ Some (offset, why)) × (new ≡ record old { at = new.at })
-Gives old (Err Memory) new = new ≡ record old { at = new.at; spent = true }
+GivesEntry old (Err (BadLog offset why)) new = (old.spent ≡ false) × (old.given ≡ length (log_fed old).entries) × ((log_fed old).fault ≡ Some (offset, why)) × (new ≡ record old { at = new.at })
+GivesEntry old (Err Memory) new = new ≡ record old { at = new.at; spent = true }

@@ -60,11 +60,11 @@ abbrev pub with_entries : List Entry → State Tables → State Tables
 with_entries entries s = record s { entries = entries }
 
 -- what was meant to be taken was, and perhaps an entry ended; or all stayed as it was
-abbrev pub Takes : Result (Option Entry) Refusal → Progress → Progress → Result (State Tables) Why → Type 0
-Takes (Ok None) old new meant = meant ≡ Ok (state_of new)
-Takes (Ok (Some e)) old new meant = meant ≡ Ok (with_entries (e ∷ []) (state_of new))
-Takes (Err (Wrong why)) old new meant = (meant ≡ Err why) × (new ≡ old)
-Takes (Err Memory) old new meant = new ≡ old
+abbrev pub TakesEvent : Result (Option Entry) Refusal → Progress → Progress → Result (State Tables) Why → Type 0
+TakesEvent (Ok None) old new meant = meant ≡ Ok (state_of new)
+TakesEvent (Ok (Some e)) old new meant = meant ≡ Ok (with_entries (e ∷ []) (state_of new))
+TakesEvent (Err (Wrong why)) old new meant = (meant ≡ Err why) × (new ≡ old)
+TakesEvent (Err Memory) old new meant = new ≡ old
 
 -- the same of an event that ends no entry
 abbrev pub Moves : Result (Unit {0}) Refusal → Progress → Progress → Result (State Tables) Why → Type 0

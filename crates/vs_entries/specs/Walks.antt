@@ -123,6 +123,6 @@ ReadsTo rules bytes old new (Gave e) =
 ReadsTo rules bytes old new (Ended why) =
     (length (log_meant rules bytes).entries ≡ old.given) × ((log_meant rules bytes).fault ≡ at_place new.at why) × (new.given ≡ old.given) × IsLeft why (drop new.at bytes)
 
-abbrev pub Reads : {E : Type 0} → Rules Tables → List ℕ → Walk → Walk → Result Next E → Type 0
-Reads rules bytes old new (Ok next) = ReadsTo rules bytes old new next
-Reads rules bytes old new (Err memory) = new.given ≡ old.given
+abbrev pub ReadsEntry : {E : Type 0} → Rules Tables → List ℕ → Walk → Walk → Result Next E → Type 0
+ReadsEntry rules bytes old new (Ok next) = ReadsTo rules bytes old new next
+ReadsEntry rules bytes old new (Err memory) = new.given ≡ old.given

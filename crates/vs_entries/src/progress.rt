@@ -58,7 +58,7 @@ impl Progress {
     ghost use Rattle.vs_gtid.specs.declared.entry.Work.TheVariants.{Rows};
     ghost use Rattle.vs_entries.specs.Reading.{
       Moves,
-      Takes,
+      TakesEvent,
       any_rules,
       is_early,
       no_schema,
@@ -144,7 +144,7 @@ impl Progress {
         schema: &Schema,
     ) -> Result<Option<Entry>, Refusal>
         requires { 19 ≤ length event.now }
-        ensures takes { Takes result self.old self.new (step (rules_of keyspace.now schema.now) (state_of self.old) event.now) }
+        ensures takes { TakesEvent result self.old self.new (step (rules_of keyspace.now schema.now) (state_of self.old) event.now) }
         ensures early { is_early self.old.standing ≡ true → IfOk result (λ o. o ≡ None) }
     {
         let bytes = self.bytes_with(event);
@@ -216,7 +216,7 @@ impl Progress {
     ) -> Result<Option<Entry>, Refusal>
         requires head { 19 ≤ length event.now }
         requires size { bytes_with {M = Tables} (Named gtid bytes) event.now ≤ limit }
-        ensures { Takes result self.old self.new (line (rules_of keyspace.now no_schema) (state_of self.old) event.now (Named gtid bytes) (sort_of event.now)) }
+        ensures { TakesEvent result self.old self.new (line (rules_of keyspace.now no_schema) (state_of self.old) event.now (Named gtid bytes) (sort_of event.now)) }
     {
         match sort_in(event) {
             Sort::AnonymousEvent => Err(Refusal::Wrong(Why::Anonymous)),
@@ -244,7 +244,7 @@ impl Progress {
     ) -> Result<Option<Entry>, Refusal>
         requires head { 19 ≤ length event.now }
         requires size { bytes_with (Inside gtid bytes self.old.maps (Rows self.old.changes)) event.now ≤ limit }
-        ensures { Takes result self.old self.new (line (rules_of keyspace.now schema.now) (state_of self.old) event.now (Inside gtid bytes self.old.maps (Rows self.old.changes)) (sort_of event.now)) }
+        ensures { TakesEvent result self.old self.new (line (rules_of keyspace.now schema.now) (state_of self.old) event.now (Inside gtid bytes self.old.maps (Rows self.old.changes)) (sort_of event.now)) }
     {
         match sort_in(event) {
             Sort::AnonymousEvent => Err(Refusal::Wrong(Why::Anonymous)),
@@ -317,7 +317,7 @@ impl Progress {
     ) -> Result<Option<Entry>, Refusal>
         requires head { 19 ≤ length event.now }
         requires size { bytes + length_of event.now ≤ limit }
-        ensures { Takes result self.old self.new (with_query keyspace.now (state_of self.old) event.now gtid bytes) }
+        ensures { TakesEvent result self.old self.new (with_query keyspace.now (state_of self.old) event.now gtid bytes) }
     {
         let Some(told) = read_statement(body_of(event), keyspace) else {
             return Err(Refusal::Wrong(Why::BadEvent { kind: 2 }));
@@ -354,7 +354,7 @@ impl Progress {
     ) -> Result<Option<Entry>, Refusal>
         requires head { 19 ≤ length event.now }
         requires size { bytes + length_of event.now ≤ limit }
-        ensures { Takes result self.old self.new (with_later_query keyspace.now (state_of self.old) event.now gtid bytes self.old.maps self.old.changes) }
+        ensures { TakesEvent result self.old self.new (with_later_query keyspace.now (state_of self.old) event.now gtid bytes self.old.maps self.old.changes) }
     {
         let Some(told) = read_statement(body_of(event), keyspace) else {
             return Err(Refusal::Wrong(Why::BadEvent { kind: 2 }));
@@ -381,7 +381,7 @@ impl Progress {
         gtid: Gtid,
     ) -> Result<Option<Entry>, Refusal>
         requires { 19 ≤ length event.now }
-        ensures { Takes result self.old self.new (with_xid (state_of self.old) event.now gtid self.old.changes) }
+        ensures { TakesEvent result self.old self.new (with_xid (state_of self.old) event.now gtid self.old.changes) }
     {
         if body_of(event).len() < 8 {
             return Err(Refusal::Wrong(Why::BadEvent { kind: 16 }));

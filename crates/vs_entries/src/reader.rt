@@ -1,6 +1,6 @@
 ghost use Rattle.std.specs.Prelude.{◌≡◌, ◌≤◌, ◌<◌, ◌+◌, ◌-◌, ◌⊎◌, [], IfOk, MatchOption, OnErr, OnOk, false, length, true};
 ghost use Rattle.vs_log.specs.Meaning.{knows_base};
-ghost use Rattle.vs_entries.specs.Pieces.{Gives, KeepsFew, fresh, log_fed, rules_fed, with_piece};
+ghost use Rattle.vs_entries.specs.Pieces.{GivesEntry, KeepsFew, fresh, log_fed, rules_fed, with_piece};
 
 use crate::fault::{Fault, tell};
 use crate::laws::laws;
@@ -101,7 +101,7 @@ impl Reader {
 
     /// The entry behind those that were given. Once memory ran out here it says so for good.
     pub fn next_entry(&mut self) -> Result<Took, LogRefusal>
-        ensures gives { Gives self.old result self.new }
+        ensures gives { GivesEntry self.old result self.new }
         ensures later { self.old.at ≤ self.new.at }
     {
         laws();

@@ -40,7 +40,7 @@ pub enum Next {
 
 impl Walk {
     ghost use Rattle.vs_entries.specs.Reading.{is_early};
-    ghost use Rattle.vs_entries.specs.Walks.{IsBack, IsFresh, IsStuck, IsWalk, Reads, Stands, Turned};
+    ghost use Rattle.vs_entries.specs.Walks.{IsBack, IsFresh, IsStuck, IsWalk, ReadsEntry, Stands, Turned};
     ghost use Rattle.vs_entries.specs.Rules.{rules_of};
 
     /// A walk that stands behind the magic.
@@ -108,7 +108,7 @@ impl Walk {
         requires from { window.now.from ≤ self.old.at }
         requires stands { Stands (rules_of keyspace.now schema.now) window.now.bytes self.old }
         ensures stands { Stands (rules_of keyspace.now schema.now) window.now.bytes self.new }
-        ensures reads { Reads (rules_of keyspace.now schema.now) window.now.bytes self.old self.new result }
+        ensures reads { ReadsEntry (rules_of keyspace.now schema.now) window.now.bytes self.old self.new result }
         ensures early { is_early self.new.progress.standing ≡ true → is_early self.old.progress.standing ≡ true }
         ensures given { is_early self.new.progress.standing ≡ true → self.new.given ≡ self.old.given }
         ensures later { self.old.at ≤ self.new.at }

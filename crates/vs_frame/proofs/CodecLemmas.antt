@@ -6,7 +6,7 @@ use Rattle.std.proofs.lemmas.Bool.Decides.{nat_tests}
 use Rattle.std.proofs.Math.Seq.{take-append_seam, drop-append_seam}
 use Rattle.tokio_util.specs.Codec.LengthDelimited.{frame, cut, cut_in, cut_frame, cut_payload, codec_layout}
 use Rattle.tokio_util.specs.declared.codec.length_delimited.LengthDelimitedCodec.{LengthDelimitedCodec}
-use Rattle.vs_frame.specs.Frames.{Begins}
+use Rattle.vs_frame.specs.Frames.{BeginsWithFrame}
 use Rattle.vs_frame.specs.Codec.{frame_layout, Waits}
 
 -- the length that the bytes begin with, as the codec reads it
@@ -32,7 +32,7 @@ cut_framed message rest within =
     ∙ ap (λ t. frame t (drop (length message) (message ++ rest))) (take-append_seam message rest)
     ∙ ap (λ d. frame message d) (drop-append_seam message rest)
 
-pub cut_whole : (codec : LengthDelimitedCodec) (bytes message rest : List ℕ) → Waits codec → Begins bytes message rest →
+pub cut_whole : (codec : LengthDelimitedCodec) (bytes message rest : List ℕ) → Waits codec → BeginsWithFrame bytes message rest →
     cut codec bytes ≡ frame message rest
 cut_whole codec bytes message rest waits begins =
     ap (λ s. cut_in (codec_layout codec) s bytes) waits.0 ∙ ap (λ l. cut_frame l bytes) waits.1

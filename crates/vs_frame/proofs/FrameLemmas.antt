@@ -5,7 +5,7 @@ use Rattle.std.proofs.lemmas.List.{take-append-drop}
 use Rattle.std.proofs.lemmas.List.Elements.{All-head, All-tail, All-append, All-cons, All-nil}
 use Rattle.std.proofs.lemmas.Nat.{be_bytes_4, from_be_bytes-to_be_bytes_4}
 use Rattle.std.proofs.Math.Seq.{take-append_seam, drop-append_seam}
-use Rattle.vs_frame.specs.Frames.{framed, frames_bytes, IsWithinLimit, Begins, HasFrame, IsGiven, HasNone}
+use Rattle.vs_frame.specs.Frames.{framed, frames_bytes, IsWithinLimit, BeginsWithFrame, HasFrame, IsGiven, HasNoFrame}
 
 -- ---- four bytes are a length
 
@@ -52,7 +52,7 @@ split_at m n rest left size e =
     let back : rest ≡ left = sym (drop-append_seam m rest) ∙ ap (λ b. drop (length m) b) e ∙ ap (λ k. drop k (n ++ left)) size ∙ drop-append_seam n left in
     (front, back)
 
-pub one_frame : (bytes m n rest left : List ℕ) → Begins bytes m rest → Begins bytes n left → (m ≡ n) × (rest ≡ left)
+pub one_frame : (bytes m n rest left : List ℕ) → BeginsWithFrame bytes m rest → BeginsWithFrame bytes n left → (m ≡ n) × (rest ≡ left)
 one_frame bytes m n rest left is was =
     let a = is.1 in
     let b = was.1 in
@@ -69,7 +69,7 @@ frames_bytes-append [] ns = refl
 frames_bytes-append (m ∷ ms) ns =
     ap (λ b. framed m ++ b) (frames_bytes-append ms ns) ∙ sym (append_assoc (framed m) (frames_bytes ms) (frames_bytes ns))
 
-pub given_one : (fed held m rest : List ℕ) (ms : List (List ℕ)) → IsGiven fed ms held → Begins held m rest → IsGiven fed (ms ++ m ∷ []) rest
+pub given_one : (fed held m rest : List ℕ) (ms : List (List ℕ)) → IsGiven fed ms held → BeginsWithFrame held m rest → IsGiven fed (ms ++ m ∷ []) rest
 given_one fed held m rest ms is next = (
   is.0
       ∙ ap (λ b. frames_bytes ms ++ b) (next.0 ∙ ap (λ b. b ++ rest) (sym (append-nil (framed m))))
@@ -78,10 +78,10 @@ given_one fed held m rest ms is next = (
   All-append IsWithinLimit ms (m ∷ []) is.1 (All-cons IsWithinLimit m [] next.1 (All-nil IsWithinLimit)),
 )
 
-first_begins : (fed held m : List ℕ) (ms : List (List ℕ)) → IsGiven fed (m ∷ ms) held → Begins fed m (frames_bytes ms ++ held)
+first_begins : (fed held m : List ℕ) (ms : List (List ℕ)) → IsGiven fed (m ∷ ms) held → BeginsWithFrame fed m (frames_bytes ms ++ held)
 first_begins fed held m ms is = (is.0 ∙ append_assoc (framed m) (frames_bytes ms) held, All-head IsWithinLimit m ms is.1)
 
-pub given_first : (fed held left : List ℕ) (ms ns : List (List ℕ)) → IsGiven fed ms held → IsGiven fed ns left → HasNone left →
+pub given_first : (fed held left : List ℕ) (ms ns : List (List ℕ)) → IsGiven fed ms held → IsGiven fed ns left → HasNoFrame left →
     (more : List (List ℕ)) × (ns ≡ ms ++ more)
 given_first fed held left [] ns is was none = (ns, refl)
 given_first fed held left (m ∷ ms) [] is was none =
@@ -96,7 +96,7 @@ given_first fed held left (m ∷ ms) (n ∷ ns) is was none =
     let more = given_first (frames_bytes ns ++ left) held left ms ns rest rests none in
     (more.0, ap (λ x. x ∷ ns) (sym same.0) ∙ ap (λ xs. m ∷ xs) more.1)
 
-pub given_all : (fed held left : List ℕ) (ms ns : List (List ℕ)) → IsGiven fed ms held → IsGiven fed ns left → HasNone held → HasNone left →
+pub given_all : (fed held left : List ℕ) (ms ns : List (List ℕ)) → IsGiven fed ms held → IsGiven fed ns left → HasNoFrame held → HasNoFrame left →
     (ms ≡ ns) × (held ≡ left)
 given_all fed held left [] [] is was none nor = (refl, sym is.0 ∙ was.0)
 given_all fed held left [] (n ∷ ns) is was none nor =
@@ -114,7 +114,7 @@ given_all fed held left (m ∷ ms) (n ∷ ns) is was none nor =
     let all = given_all (frames_bytes ns ++ left) held left ms ns rest rests none nor in
     (ap (λ x. x ∷ ms) same.0 ∙ ap (λ xs. n ∷ xs) all.0, all.1)
 
-pub begins_alike : (bytes m rest n left : List ℕ) → Begins bytes m rest → n ≡ m → left ≡ rest → Begins bytes n left
+pub begins_alike : (bytes m rest n left : List ℕ) → BeginsWithFrame bytes m rest → n ≡ m → left ≡ rest → BeginsWithFrame bytes n left
 begins_alike bytes m rest n left is e f = (
   is.0 ∙ ap (λ b. framed b ++ rest) (sym e) ∙ ap (λ b. framed n ++ b) (sym f),
   let within = is.1 in omega (arith, ap length e),

@@ -18,12 +18,12 @@ abbrev pub IsWithinLimit : List ℕ → Type 0
 IsWithinLimit message = length message ≤ most_message
 
 -- the bytes begin with the frame of this message, and this is behind it
-abbrev pub Begins : List ℕ → List ℕ → List ℕ → Type 0
-Begins bytes message rest = (bytes ≡ framed message ++ rest) × IsWithinLimit message
+abbrev pub BeginsWithFrame : List ℕ → List ℕ → List ℕ → Type 0
+BeginsWithFrame bytes message rest = (bytes ≡ framed message ++ rest) × IsWithinLimit message
 
 -- the bytes begin with a frame
 abbrev pub HasFrame : List ℕ → Type 0
-HasFrame bytes = (message : List ℕ) × (rest : List ℕ) × Begins bytes message rest
+HasFrame bytes = (message : List ℕ) × (rest : List ℕ) × BeginsWithFrame bytes message rest
 
 -- the bytes begin with a length over the limit
 abbrev pub IsTooLong : List ℕ → ℕ → Type 0
@@ -49,15 +49,15 @@ with_more h piece = record h { bytes = h.bytes ++ piece }
 
 -- why a framer that refused nothing yet refuses, and what it holds then: a length over the limit stands at the front, and
 -- stays; or memory ran out
-abbrev pub Refuses : List ℕ → FrameRefusal → List ℕ → Type 0
-Refuses bytes (FrameTooLong n) left = IsTooLong bytes n × (left ≡ bytes)
-Refuses bytes Memory left = Unit {0}
+abbrev pub RefusesFrame : List ℕ → FrameRefusal → List ℕ → Type 0
+RefusesFrame bytes (FrameTooLong n) left = IsTooLong bytes n × (left ≡ bytes)
+RefusesFrame bytes Memory left = Unit {0}
 
 -- What the next frame of a framer is: none yet, the one at the front, or a refusal, which stays.
-abbrev pub Gives : Held → Result (Option (List ℕ)) FrameRefusal → Held → Type 0
-Gives old (Ok None) new = (old.refused ≡ None) × IsPart old.bytes × (new ≡ old)
-Gives old (Ok (Some message)) new = (old.refused ≡ None) × Begins old.bytes message new.bytes × (new.refused ≡ None)
-Gives old (Err e) new = (new.refused ≡ Some e) × ((new ≡ old) ⊎ ((old.refused ≡ None) × Refuses old.bytes e new.bytes))
+abbrev pub GivesFrame : Held → Result (Option (List ℕ)) FrameRefusal → Held → Type 0
+GivesFrame old (Ok None) new = (old.refused ≡ None) × IsPart old.bytes × (new ≡ old)
+GivesFrame old (Ok (Some message)) new = (old.refused ≡ None) × BeginsWithFrame old.bytes message new.bytes × (new.refused ≡ None)
+GivesFrame old (Err e) new = (new.refused ≡ Some e) × ((new ≡ old) ⊎ ((old.refused ≡ None) × RefusesFrame old.bytes e new.bytes))
 
 -- ---- the laws
 
@@ -66,5 +66,5 @@ abbrev pub IsGiven : List ℕ → List (List ℕ) → List ℕ → Type 0
 IsGiven fed messages held = (fed ≡ frames_bytes messages ++ held) × All IsWithinLimit messages
 
 -- no frame stands at the front
-abbrev pub HasNone : List ℕ → Type 0
-HasNone bytes = (message rest : List ℕ) → ¬ (Begins bytes message rest)
+abbrev pub HasNoFrame : List ℕ → Type 0
+HasNoFrame bytes = (message rest : List ℕ) → ¬ (BeginsWithFrame bytes message rest)

@@ -1,6 +1,6 @@
 ghost use Rattle.std.specs.Prelude.{IfOk, OnOk};
 ghost use Rattle.vs_frame.specs.Codec.{Waits};
-ghost use Rattle.vs_frame.specs.Frames.{Begins, HasFrame};
+ghost use Rattle.vs_frame.specs.Frames.{BeginsWithFrame, HasFrame};
 
 use crate::{LIMIT, OutOfMemory};
 use bytes::BytesMut;
@@ -23,7 +23,7 @@ pub(crate) fn take_message(
 ) -> Result<BytesMut, OutOfMemory>
     requires waits { Waits codec.old }
     requires whole { HasFrame buffer.old.items }
-    ensures frame { IfOk result (λ m. Begins buffer.old.items m.items buffer.new.items) }
+    ensures frame { IfOk result (λ m. BeginsWithFrame buffer.old.items m.items buffer.new.items) }
     ensures waits { OnOk result (Waits codec.new) }
 {
     match codec.decode(buffer) {

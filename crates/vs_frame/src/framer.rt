@@ -1,5 +1,5 @@
 ghost use Rattle.std.specs.Prelude.{◌≡◌, IfOk, OnErr, OnOk, [], length};
-ghost use Rattle.vs_frame.specs.Frames.{Begins, Gives, HasFrame, holding, with_more};
+ghost use Rattle.vs_frame.specs.Frames.{BeginsWithFrame, GivesFrame, HasFrame, holding, with_more};
 ghost use Rattle.vs_frame.specs.Codec.{Waits};
 
 use crate::codec::{new_codec, take_message};
@@ -63,7 +63,7 @@ impl Framer {
     /// The message of the next frame, or `None` where less than a frame is held. After a refusal
     /// it answers that one.
     pub fn next_frame(&mut self) -> Result<Option<Text>, FrameRefusal>
-        ensures { Gives self.old result self.new }
+        ensures { GivesFrame self.old result self.new }
     {
         if let Some(refusal) = self.refused {
             return Err(refusal);
@@ -94,7 +94,7 @@ fn take_text(
 ) -> Result<Text, OutOfMemory>
     requires waits { Waits codec.old }
     requires whole { HasFrame buffer.old.items }
-    ensures frame { IfOk result (λ m. Begins buffer.old.items m buffer.new.items) }
+    ensures frame { IfOk result (λ m. BeginsWithFrame buffer.old.items m buffer.new.items) }
     ensures waits { OnOk result (Waits codec.new) }
 {
     let message = take_message(codec, buffer)?;

@@ -1,5 +1,5 @@
 ghost use Rattle.std.specs.Prelude.{◌≡◌, ◌∷◌, ◌++◌, ℕ, List, []};
-ghost use Rattle.vs_frame.specs.Frames.{Begins, HasNone, IsGiven};
+ghost use Rattle.vs_frame.specs.Frames.{BeginsWithFrame, HasNoFrame, IsGiven};
 ghost use Rattle.vs_frame.specs.Laws.{
   HasOneFrame,
   HasOneLength,
@@ -23,9 +23,9 @@ pub fn law_front()
 pub fn law_frames()
     ensures starts { IsGiven [] [] [] }
     ensures fed { (fed held piece : List ℕ) (ms : List (List ℕ)) → IsGiven fed ms held → IsGiven (fed ++ piece) ms (held ++ piece) }
-    ensures given { (fed held m rest : List ℕ) (ms : List (List ℕ)) → IsGiven fed ms held → Begins held m rest → IsGiven fed (ms ++ m ∷ []) rest }
-    ensures first { (fed held left : List ℕ) (ms ns : List (List ℕ)) → IsGiven fed ms held → IsGiven fed ns left → HasNone left
+    ensures given { (fed held m rest : List ℕ) (ms : List (List ℕ)) → IsGiven fed ms held → BeginsWithFrame held m rest → IsGiven fed (ms ++ m ∷ []) rest }
+    ensures first { (fed held left : List ℕ) (ms ns : List (List ℕ)) → IsGiven fed ms held → IsGiven fed ns left → HasNoFrame left
         → (more : List (List ℕ)) × (ns ≡ ms ++ more) }
-    ensures all { (fed held left : List ℕ) (ms ns : List (List ℕ)) → IsGiven fed ms held → IsGiven fed ns left → HasNone held → HasNone left
+    ensures all { (fed held left : List ℕ) (ms ns : List (List ℕ)) → IsGiven fed ms held → IsGiven fed ns left → HasNoFrame held → HasNoFrame left
         → (ms ≡ ns) × (held ≡ left) }
 {}

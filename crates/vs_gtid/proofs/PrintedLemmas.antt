@@ -16,7 +16,7 @@ use Rattle.vs_gtid.specs.declared.interval.Interval.{Interval}
 use Rattle.vs_gtid.specs.declared.span.Span.{Span}
 use Rattle.vs_gtid.specs.Positions.{Position, has, IsCanonical, IsInterval}
 use Rattle.vs_gtid.specs.SetTexts.{IsNumber, IsSpan, AreSpans, IsItem, AreItems, IsPrefix, IsSetText, in_turn}
-use Rattle.vs_gtid.specs.Readings.{empty_at, first_place, greatest, intervals_of, over_at, zero_at, Reads}
+use Rattle.vs_gtid.specs.Readings.{empty_at, first_place, greatest, intervals_of, over_at, zero_at, ReadsSet}
 use Rattle.vs_gtid.specs.Text.{following_text, next_text, opening_text, set_text, span_text}
 use Rattle.vs_gtid.proofs.JoinLemmas.{AreIntervals}
 use Rattle.vs_gtid.proofs.UuidLemmas.{uuid_long}
@@ -243,7 +243,7 @@ none_empty s h =
     rw a refl
 
 -- what is printed says the set
-pub printed : (front : List ℕ) (p : Position) → IsPrefix front → IsCanonical p → length p ≤ 1024 → Reads (front ++ set_text p) (Ok p)
+pub printed : (front : List ℕ) (p : Position) → IsPrefix front → IsCanonical p → length p ≤ 1024 → ReadsSet (front ++ set_text p) (Ok p)
 printed front p k c few =
     let v = AreIntervals p c in
     let m = set_printed front p k v in

@@ -11,7 +11,7 @@ use Rattle.vs_gtid.specs.Positions.{Position, has}
 use Rattle.vs_gtid.specs.Joins.{limited, merged}
 use Rattle.vs_gtid.specs.SetTexts.{IsSetText}
 use Rattle.vs_gtid.specs.Parts.{begun, end_of, ended, may_end, next, scanned, scanned_from, Scanned}
-use Rattle.vs_gtid.specs.Readings.{empty_at, fault_in, fault_of, first_place, intervals_of, judged, over_at, read, zero_at, AreLawful, Fits, HasSpans, IsInForm, IsOver, IsUnfit, Reads}
+use Rattle.vs_gtid.specs.Readings.{empty_at, fault_in, fault_of, first_place, intervals_of, judged, over_at, read, zero_at, AreLawful, Fits, HasSpans, IsInForm, IsOver, IsUnfit, ReadsSet}
 use Rattle.vs_gtid.proofs.EqualSets.{canonical_unique}
 use Rattle.vs_gtid.proofs.JoinLemmas.{has-merged, IsCanonical-merged}
 use Rattle.vs_gtid.proofs.MergeLemmas.{limited_few, limited_many}
@@ -148,7 +148,7 @@ is_text text h =
 
 judge : (text : List ℕ) (over stop zero empty : Option ℕ) → first_place over_at (scanned text).spans ≡ over → (scanned text).stop ≡ stop →
     first_place zero_at (scanned text).spans ≡ zero → first_place empty_at (scanned text).spans ≡ empty →
-    Reads text (judged (fault_of over stop zero empty) (scanned text).spans)
+    ReadsSet text (judged (fault_of over stop zero empty) (scanned text).spans)
 judge text (Some at) stop z e a b c d = inr (is_over text at a)
 judge text None (Some at) z e a b c d = inl (is_unfit text at a b)
 judge text None None (Some at) e a b c d = ((scanned text).spans, record { is_text = is_text text b; in_range = a }, c)
@@ -158,12 +158,12 @@ judge text None None None None a b c d =
     let lawful : AreLawful text spans = record { form = record { is_text = is_text text b; in_range = a }; no_zero = c; none_empty = d } in
     let p : Position = merged (intervals_of spans) in
     elim (cases_lt 1024 (length p)) [
-      | inl many ↦ subst (λ (r : Result Position GtidRefusal). Reads text r) (sym (limited_many p many)) (spans, lawful, p, has_spans text spans lawful, many)
-      | inr few ↦ subst (λ (r : Result Position GtidRefusal). Reads text r) (sym (limited_few p few)) (spans, lawful, has_spans text spans lawful, few)
+      | inl many ↦ subst (λ (r : Result Position GtidRefusal). ReadsSet text r) (sym (limited_many p many)) (spans, lawful, p, has_spans text spans lawful, many)
+      | inr few ↦ subst (λ (r : Result Position GtidRefusal). ReadsSet text r) (sym (limited_few p few)) (spans, lawful, has_spans text spans lawful, few)
     ]
 
 -- what the scan gives is what the text says
-pub reads : (text : List ℕ) → Reads text (read text)
+pub reads : (text : List ℕ) → ReadsSet text (read text)
 reads text = judge text (first_place over_at (scanned text).spans) (scanned text).stop (first_place zero_at (scanned text).spans) (first_place empty_at (scanned text).spans) refl refl refl refl
 
 -- what is read, by the first faults
@@ -284,7 +284,7 @@ only_over text at h =
     ∙ over_kept rest front f.kept f.after at took.stands f.over))
 
 -- a text says nothing else
-pub only : (text : List ℕ) (r : Result Position GtidRefusal) → Reads text r → r ≡ read text
+pub only : (text : List ℕ) (r : Result Position GtidRefusal) → ReadsSet text r → r ≡ read text
 only text (Ok p) (spans, lawful, has, few) =
     sym (read_form text spans None None lawful.form lawful.no_zero lawful.none_empty
     ∙ (ap limited (sym (only_set text spans p lawful has)) ∙ limited_few p few))

@@ -77,14 +77,14 @@ pub record HasSpans (p : Position) (spans : List Span) : Type 0 where
   pub members : (g : Gtid) → has p g ≡ has (intervals_of spans) g
 
 -- what the text says
-abbrev pub Reads : List ℕ → Result Position GtidRefusal → Type 0
-Reads text (Ok p) = (spans : List Span) × AreLawful text spans × HasSpans p spans × (length p ≤ most_intervals)
-Reads text (Err (BadText at)) = IsUnfit text at ⊎ IsOver text at
-Reads text (Err (ZeroNumber at)) = (spans : List Span) × IsInForm text spans × (first_place zero_at spans ≡ Some at)
-Reads text (Err (EmptyInterval at)) = (spans : List Span) × IsInForm text spans × (first_place zero_at spans ≡ None) × (first_place empty_at spans ≡ Some at)
-Reads text (Err (BadBlock at)) = ⊥
-Reads text (Err TooManyIntervals) = (spans : List Span) × AreLawful text spans × (p : Position) × HasSpans p spans × (most_intervals < length p)
-Reads text (Err Memory) = ⊥
+abbrev pub ReadsSet : List ℕ → Result Position GtidRefusal → Type 0
+ReadsSet text (Ok p) = (spans : List Span) × AreLawful text spans × HasSpans p spans × (length p ≤ most_intervals)
+ReadsSet text (Err (BadText at)) = IsUnfit text at ⊎ IsOver text at
+ReadsSet text (Err (ZeroNumber at)) = (spans : List Span) × IsInForm text spans × (first_place zero_at spans ≡ Some at)
+ReadsSet text (Err (EmptyInterval at)) = (spans : List Span) × IsInForm text spans × (first_place zero_at spans ≡ None) × (first_place empty_at spans ≡ Some at)
+ReadsSet text (Err (BadBlock at)) = ⊥
+ReadsSet text (Err TooManyIntervals) = (spans : List Span) × AreLawful text spans × (p : Position) × HasSpans p spans × (most_intervals < length p)
+ReadsSet text (Err Memory) = ⊥
 
 -- the first fault of some spans, which go up to where the text stops to fit
 abbrev pub fault_of : Option ℕ → Option ℕ → Option ℕ → Option ℕ → Option GtidRefusal

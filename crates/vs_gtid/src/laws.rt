@@ -5,7 +5,7 @@ ghost use Rattle.vs_base.specs.declared.gtid.Gtid.{Gtid};
 ghost use Rattle.vs_gtid.specs.Joins.{added, united};
 ghost use Rattle.vs_gtid.specs.declared.refusal.GtidRefusal.{GtidRefusal};
 ghost use Rattle.vs_gtid.specs.Positions.{has, IsCanonical, Position, SameSet};
-ghost use Rattle.vs_gtid.specs.Readings.{Reads};
+ghost use Rattle.vs_gtid.specs.Readings.{ReadsSet};
 ghost use Rattle.vs_gtid.specs.Text.{position_text, set_text};
 
 /// Sets with the same GTIDs are equal.
@@ -26,12 +26,12 @@ pub fn law_united()
 
 /// Each text says one thing: a set, or a fault with its place.
 pub fn law_readings()
-    ensures one { (text : List ℕ) → (r : Result Position GtidRefusal) → (s : Result Position GtidRefusal) → Reads text r → Reads text s → r ≡ s }
-    ensures some { (text : List ℕ) → (r : Result Position GtidRefusal) × Reads text r }
+    ensures one { (text : List ℕ) → (r : Result Position GtidRefusal) → (s : Result Position GtidRefusal) → ReadsSet text r → ReadsSet text s → r ≡ s }
+    ensures some { (text : List ℕ) → (r : Result Position GtidRefusal) × ReadsSet text r }
 {}
 
 /// What is printed of a set says that set, with the prefix and without.
 pub fn law_printed()
-    ensures set { (p : Position) → IsCanonical p → length p ≤ 1024 → Reads (set_text p) (Ok p) }
-    ensures position { (p : Position) → IsCanonical p → length p ≤ 1024 → Reads (position_text p) (Ok p) }
+    ensures set { (p : Position) → IsCanonical p → length p ≤ 1024 → ReadsSet (set_text p) (Ok p) }
+    ensures position { (p : Position) → IsCanonical p → length p ≤ 1024 → ReadsSet (position_text p) (Ok p) }
 {}

@@ -10,7 +10,7 @@ ghost use Rattle.vs_gtid.specs.Readings.{
   over_at,
   read,
   zero_at,
-  Reads,
+  ReadsSet,
 };
 ghost use Rattle.vs_gtid.specs.Text.{position_text, set_text};
 
@@ -26,8 +26,8 @@ impl GtidSet {
     /// very front. Places count from the text's front. A fault of form anywhere comes before a zero,
     /// a zero before an empty interval, and that before a set of too many intervals.
     pub fn parse(alloc: Global, text: &[u8]) -> Result<GtidSet, GtidRefusal>
-        ensures reads { (result ≡ Err GtidRefusal.Memory) ⊎ Reads text.now result }
-        ensures only { (r : Result Position GtidRefusal) → Reads text.now r → (result ≡ Err GtidRefusal.Memory) ⊎ (result ≡ r) }
+        ensures reads { (result ≡ Err GtidRefusal.Memory) ⊎ ReadsSet text.now result }
+        ensures only { (r : Result Position GtidRefusal) → ReadsSet text.now r → (result ≡ Err GtidRefusal.Memory) ⊎ (result ≡ r) }
         ensures printed { (p : Position) → IsCanonical p → length p ≤ 1024 → (text.now ≡ set_text p) ⊎ (text.now ≡ position_text p) → (result ≡ Err GtidRefusal.Memory) ⊎ (result ≡ Ok p) }
         ensures position { IfOk result (λ s. IsPosition s) }
     {

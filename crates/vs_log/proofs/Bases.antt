@@ -13,7 +13,7 @@ use Rattle.vs_binlog.specs.Heads.{Event, length_of}
 use Rattle.vs_log.specs.Events.{is_held, magic, joined}
 use Rattle.vs_log.specs.Table.{Rules, step}
 use Rattle.vs_log.specs.Meaning.{at_place, front, head_refusal, log_of, follow, follow_with, has_magic, is_base_known, knows_base, log_meant, tell_base}
-use Rattle.vs_log.specs.Productions.{is_counted, is_first, is_nil, in_turn, Begins, IsBase, IsBegun, IsCut, Means, Parts, Refuses, Stands}
+use Rattle.vs_log.specs.Productions.{is_counted, is_first, is_nil, in_turn, BeginsLog, IsBase, IsBegun, IsCut, Means, Parts, RefusesEvent, Stands}
 use Rattle.vs_log.specs.Laws.{KnowsItsBase}
 use Rattle.vs_log.proofs.Moves.{Moves, step_moves}
 use Rattle.vs_log.proofs.Moves.Moves.{formatted, passed_between, passed_named, passed_inside, based, names, singles, begins, saves, maps_on, tells, ends}
@@ -30,15 +30,15 @@ unfolding knows_base
 base_from rules bytes right h = ap (λ b. if b then follow_with tell_base (suc (length bytes)) rules 4 front (drop 4 bytes) else false) h
 
 -- whether the base is known, behind events that begin the log
-base_behind : {M : Type 0} (rules : Rules M) (bytes : List ℕ) (events : List Event) (rest : List ℕ) (s : State M) → IsCut bytes events rest → Begins rules events s →
+base_behind : {M : Type 0} (rules : Rules M) (bytes : List ℕ) (events : List Event) (rest : List ℕ) (s : State M) → IsCut bytes events rest → BeginsLog rules events s →
     (m : ℕ) × (length rest < m) × (knows_base rules bytes ≡ follow_with tell_base m rules (4 + length (joined events)) s rest)
 base_behind rules bytes events rest s c b =
     let n = suc (length (magic ++ (joined events ++ rest))) in
     let k = follow_walk tell_base n rules 4 front s events rest c.whole c.short (complete rules events s b) (omega arith) in
     (k.0, k.1, ap (λ z. knows_base rules z) c.are ∙ base_from rules (magic ++ (joined events ++ rest)) true (magic_there (joined events ++ rest)) ∙ k.2)
 
-by_parts : {M : Type 0} (rules : Rules M) (bytes : List ℕ) (events : List Event) (s : State M) (rest : List ℕ) (why : Option Why) → IsCut bytes events rest → Begins rules events s →
-    Refuses rules s (4 + length (joined events)) rest why → knows_base rules bytes ≡ is_base_known s.place why
+by_parts : {M : Type 0} (rules : Rules M) (bytes : List ℕ) (events : List Event) (s : State M) (rest : List ℕ) (why : Option Why) → IsCut bytes events rest → BeginsLog rules events s →
+    RefusesEvent rules s (4 + length (joined events)) rest why → knows_base rules bytes ≡ is_base_known s.place why
 by_parts rules bytes events s rest why c b r =
     let k = base_behind rules bytes events rest s c b in
     k.2 ∙ follow_stops tell_base k.0 rules (4 + length (joined events)) s rest why k.1 r
@@ -104,7 +104,7 @@ follow_knows (suc n) rules at s rest h =
         let more = k next keeps.0 in
         (more.0, more.1 ∙ keeps.1)
 
-behind : {M : Type 0} (rules : Rules M) (bytes : List ℕ) (events : List Event) (s : State M) (rest : List ℕ) → IsCut bytes events rest → Begins rules events s → is_base_known s.place None ≡ true →
+behind : {M : Type 0} (rules : Rules M) (bytes : List ℕ) (events : List Event) (s : State M) (rest : List ℕ) → IsCut bytes events rest → BeginsLog rules events s → is_base_known s.place None ≡ true →
     (knows_base rules bytes ≡ true) × ((log_meant rules bytes).base ≡ s.base)
 behind rules bytes events s rest c b h =
     let k = base_behind rules bytes events rest s c b in
@@ -136,7 +136,7 @@ no_base rules events s st h =
     let no_previous : l.previous ≡ [] = left_nil l.previous (in_turn l.groups ++ st.opened) (sym l.parts ∙ none) in
     subst (λ z. IsBase rules z s.base) no_previous l.is_base
 
-begun_base : {M : Type 0} (rules : Rules M) (events : List Event) (s : State M) (why : Option Why) → Begins rules events s → is_base_known s.place why ≡ false → s.base ≡ []
+begun_base : {M : Type 0} (rules : Rules M) (events : List Event) (s : State M) (why : Option Why) → BeginsLog rules events s → is_base_known s.place why ≡ false → s.base ≡ []
 begun_base rules [] s why b h = ap (λ (z : State _). z.base) b
 begun_base rules (e ∷ events) s why b h = no_base rules (e ∷ events) s b (may_follow rules b.known b.opened s s.place why b.begun h)
 
@@ -185,7 +185,7 @@ stays_at_fault : {M : Type 0} (rules : Rules M) (bytes more : List ℕ) (p : Par
 stays_at_fault rules bytes more p None is h k = let no : true ≡ false = sym k ∙ h in absurd (cc)
 stays_at_fault rules bytes more p (Some why) is h k =
     let at = 4 + length (joined p.events) in
-    let refused = refusal_stays rules p.state at p.rest more why (subst (λ z. Refuses rules p.state at p.rest z) is p.refused) in
+    let refused = refusal_stays rules p.state at p.rest more why (subst (λ z. RefusesEvent rules p.state at p.rest z) is p.refused) in
     let fault : (log_meant rules bytes).fault ≡ Some (at, why) = ap (λ (z : Log). z.fault) p.is ∙ ap (λ z. at_place at z) is in (
       by_parts rules (bytes ++ more) p.events p.state (p.rest ++ more) (Some why) (cut_longer bytes more p.events p.rest p.cut) p.begins refused ∙ k,
       ap (λ (z : Log). z.base) ((grows rules bytes more).faulty (at, why) fault),
@@ -215,7 +215,7 @@ nothing_entered rules events s st h =
     let behind_base : in_turn l.groups ++ st.opened ≡ [] = right_nil l.previous (in_turn l.groups ++ st.opened) (sym l.parts ∙ none) in
     no_entries rules s.base st.known l.groups s.entries l.are_entries (left_nil (in_turn l.groups) st.opened behind_base)
 
-begun_entries : {M : Type 0} (rules : Rules M) (events : List Event) (s : State M) (why : Option Why) → Begins rules events s → is_base_known s.place why ≡ false → s.entries ≡ []
+begun_entries : {M : Type 0} (rules : Rules M) (events : List Event) (s : State M) (why : Option Why) → BeginsLog rules events s → is_base_known s.place why ≡ false → s.entries ≡ []
 begun_entries rules [] s why b h = ap (λ (z : State _). z.entries) b
 begun_entries rules (e ∷ events) s why b h = nothing_entered rules (e ∷ events) s b (may_follow rules b.known b.opened s s.place why b.begun h)
 

@@ -20,7 +20,7 @@ use Rattle.vs_binlog.specs.Heads.{Event, length_of}
 use Rattle.vs_log.specs.Events.{limit}
 use Rattle.vs_log.specs.Table.{Rules, one_more, more_work, step}
 use Rattle.vs_log.specs.Meaning.{front}
-use Rattle.vs_log.specs.Productions.{is_counted, total, in_turn, is_nil, is_first, IsBase, IsMiddle, IsWork, IsGtid, IsUnended, IsSingle, IsTransaction, IsEntry, IsNew, AreEntries, IsBegun, Stands, Begins}
+use Rattle.vs_log.specs.Productions.{is_counted, total, in_turn, is_nil, is_first, IsBase, IsMiddle, IsWork, IsGtid, IsUnended, IsSingle, IsTransaction, IsEntry, IsNew, AreEntries, IsBegun, Stands, BeginsLog}
 use Rattle.vs_log.proofs.Moves.Moves.{formatted, based, names, singles, begins, saves, maps_on, tells, ends}
 use Rattle.vs_log.proofs.Shapes.{total-append, no_entry, front_all}
 use Rattle.vs_log.proofs.Takes.{walk, walk_one, walk-append, takes_counted, filter_walk}
@@ -237,6 +237,6 @@ walk_log rules events s st =
     )
 
 -- what begins a log, leads the table to the state that it says
-pub complete : {M : Type 0} (rules : Rules M) (events : List Event) (s : State M) → Begins rules events s → walk rules front events ≡ Ok s
+pub complete : {M : Type 0} (rules : Rules M) (events : List Event) (s : State M) → BeginsLog rules events s → walk rules front events ≡ Ok s
 complete rules [] s b = ap (λ z. Ok z) (sym b)
 complete rules (e ∷ events) s b = walk_log rules (e ∷ events) s b

@@ -14,7 +14,7 @@ use Rattle.vs_log.specs.States.{State}
 use Rattle.vs_binlog.specs.Heads.{Event}
 use Rattle.vs_log.specs.Table.{Rules}
 use Rattle.vs_log.specs.Meaning.{log_meant}
-use Rattle.vs_log.specs.Productions.{AreEntries, Begins, Means}
+use Rattle.vs_log.specs.Productions.{AreEntries, BeginsLog, Means}
 use Rattle.vs_log.specs.Laws.{FitAlong, HasNewGtids}
 use Rattle.vs_log.proofs.Follows.{means}
 
@@ -47,7 +47,7 @@ new_ones rules known after (group ∷ groups) (e ∷ es) a =
     let rest = new_ones rules (added known e.gtid) after groups es a.2 in
     ((a.1.lacks, lacks_before known e.gtid es rest.0), (lacks_it known e.gtid es rest.0, rest.1), (a.1.few, rest.2))
 
-of_state : {M : Type 0} (rules : Rules M) (events : List Event) (s : State M) → Begins rules events s → NewIn s.base s.entries
+of_state : {M : Type 0} (rules : Rules M) (events : List Event) (s : State M) → BeginsLog rules events s → NewIn s.base s.entries
 of_state rules [] s b = subst (λ z. NewIn z.base z.entries) (sym b) (tt, tt, tt)
 of_state rules (e ∷ events) s b = new_ones rules s.base b.known b.log.groups s.entries b.log.are_entries
 

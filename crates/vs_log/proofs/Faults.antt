@@ -13,7 +13,7 @@ use Rattle.vs_binlog.specs.Heads.{length_of}
 use Rattle.vs_log.specs.Events.{sort_of, is_held, limit, last_place, joined}
 use Rattle.vs_log.specs.Table.{Rules, bytes_with, line, step}
 use Rattle.vs_log.specs.Meaning.{head_refusal, log_of, at_place, log_meant}
-use Rattle.vs_log.specs.Productions.{EntryEndsAt, IsWrong, Refuses, Parts, Means, StandsAt}
+use Rattle.vs_log.specs.Productions.{EntryEndsAt, IsWrong, RefusesEvent, Parts, Means, StandsAt}
 use Rattle.vs_log.specs.Laws.{Grows}
 use Rattle.vs_log.proofs.Cuts.{length_of-append, bytes_with-append, held, Holds}
 use Rattle.vs_log.proofs.Follows.{means}
@@ -79,7 +79,7 @@ wrong_whole rules s at rest why k h =
       refused = refused_size rules s _ (subst (λ z. nat_lt limit z ≡ true) same l.0) ∙ ap (λ z. Err z) (ap (λ z. TooLarge z) (sym same) ∙ l.1);
     }
 
-head_stays : {M : Type 0} (rules : Rules M) (s : State M) (at : ℕ) (rest more : List ℕ) (why : Why) → head_refusal at s.place rest ≡ Some why → Refuses rules s at (rest ++ more) (Some why)
+head_stays : {M : Type 0} (rules : Rules M) (s : State M) (at : ℕ) (rest more : List ℕ) (why : Why) → head_refusal at s.place rest ≡ Some why → RefusesEvent rules s at (rest ++ more) (Some why)
 head_stays rules s at rest more why h = go (is_held at (rest ++ more)) refl where
   whole : 19 ≤ length rest
   whole = ltb-false (length rest) 19 (whole_head (nat_lt (length rest) 19) _ _ _ _ _ why (sym (by_tests at s.place rest) ∙ h))
@@ -87,11 +87,11 @@ head_stays rules s at rest more why h = go (is_held at (rest ++ more)) refl wher
   same : head_refusal at s.place (rest ++ more) ≡ Some why
   same = judged_alike at s.place rest more whole ∙ h
 
-  go : (b : Bool) → is_held at (rest ++ more) ≡ b → Refuses rules s at (rest ++ more) (Some why)
+  go : (b : Bool) → is_held at (rest ++ more) ≡ b → RefusesEvent rules s at (rest ++ more) (Some why)
   go true k = ◌⊎◌.inl (wrong_whole rules s at (rest ++ more) why (held at (rest ++ more) k) same)
   go false k = ◌⊎◌.inr (k, same)
 
-pub refusal_stays : {M : Type 0} (rules : Rules M) (s : State M) (at : ℕ) (rest more : List ℕ) (why : Why) → Refuses rules s at rest (Some why) → Refuses rules s at (rest ++ more) (Some why)
+pub refusal_stays : {M : Type 0} (rules : Rules M) (s : State M) (at : ℕ) (rest more : List ℕ) (why : Why) → RefusesEvent rules s at rest (Some why) → RefusesEvent rules s at (rest ++ more) (Some why)
 refusal_stays rules s at rest more why (◌⊎◌.inl w) = ◌⊎◌.inl (record {
   event = w.event;
   more = w.more ++ more;
@@ -113,7 +113,7 @@ parts_stay rules bytes more log fault p (Some why) e h = record {
   state = p.state;
   begins = p.begins;
   why = Some why;
-  refused = refusal_stays rules p.state _ p.rest more why (subst (λ z. Refuses rules p.state (4 + length (joined p.events)) p.rest z) e p.refused);
+  refused = refusal_stays rules p.state _ p.rest more why (subst (λ z. RefusesEvent rules p.state (4 + length (joined p.events)) p.rest z) e p.refused);
   is = p.is ∙ ap (λ z. log_of p.state (4 + length (joined p.events)) z) e;
 }
 

@@ -10,18 +10,18 @@ use Rattle.vs_binlog.specs.Heads.{Event, length_of}
 use Rattle.vs_log.specs.Events.{is_held, last_place, magic, joined}
 use Rattle.vs_log.specs.Table.{Rules, step}
 use Rattle.vs_log.specs.Meaning.{front, head_refusal, log_of, log_unread, follow, follow_with, has_magic, log_meant}
-use Rattle.vs_log.specs.Productions.{Begins, IsCut, Parts, Means}
+use Rattle.vs_log.specs.Productions.{BeginsLog, IsCut, Parts, Means}
 use Rattle.vs_log.proofs.Sound.{sound_step}
 use Rattle.vs_log.proofs.Cuts.{held, cut_more, length_more, magic_front}
 
 -- the parts of bytes whose events so far begin a log
 Goes : {M : Type 0} → Rules M → List ℕ → ℕ → Type 0
 Goes rules bytes n =
-    (events : List Event) (at : ℕ) (s : State _) (rest : List ℕ) → IsCut bytes events rest → Begins rules events s → at ≡ 4 + length (joined events) → length rest < n →
+    (events : List Event) (at : ℕ) (s : State _) (rest : List ℕ) → IsCut bytes events rest → BeginsLog rules events s → at ≡ 4 + length (joined events) → length rest < n →
     Parts rules bytes (follow n rules at s rest)
 
 -- nothing whole is left
-stopped : {M : Type 0} (rules : Rules M) (bytes : List ℕ) (events : List Event) (at : ℕ) (s : State M) (rest : List ℕ) (why : Option Why) → IsCut bytes events rest → Begins rules events s →
+stopped : {M : Type 0} (rules : Rules M) (bytes : List ℕ) (events : List Event) (at : ℕ) (s : State M) (rest : List ℕ) (why : Option Why) → IsCut bytes events rest → BeginsLog rules events s →
     at ≡ 4 + length (joined events) → is_held at rest ≡ false → head_refusal at s.place rest ≡ why → Parts rules bytes (log_of s at why)
 stopped rules bytes events at s rest None c b p h r = record {
   events = events;
@@ -45,7 +45,7 @@ stopped rules bytes events at s rest (Some why) c b p h r = record {
 }
 
 -- an event is whole
-turned : {M : Type 0} (rules : Rules M) (bytes : List ℕ) (n : ℕ) (events : List Event) (at : ℕ) (s : State M) (rest : List ℕ) (r : Result (State M) Why) → IsCut bytes events rest → Begins rules events s →
+turned : {M : Type 0} (rules : Rules M) (bytes : List ℕ) (n : ℕ) (events : List Event) (at : ℕ) (s : State M) (rest : List ℕ) (r : Result (State M) Why) → IsCut bytes events rest → BeginsLog rules events s →
     at ≡ 4 + length (joined events) → length rest < suc n → is_held at rest ≡ true → step rules s (take (length_of rest) rest) ≡ r → Goes rules bytes n →
     Parts rules bytes (elim r [ Ok next ↦ follow n rules (at + length_of rest) next (drop (length_of rest) rest) | Err why ↦ log_of s at (Some why) ])
 unfolding Goes
@@ -70,7 +70,7 @@ turned rules bytes n events at s rest (Err why) c b p l h t goes =
       is = ap (λ z. log_of s z (Some why)) p;
     }
 
-turn : {M : Type 0} (rules : Rules M) (bytes : List ℕ) (n : ℕ) (events : List Event) (at : ℕ) (s : State M) (rest : List ℕ) (whole : Bool) → IsCut bytes events rest → Begins rules events s →
+turn : {M : Type 0} (rules : Rules M) (bytes : List ℕ) (n : ℕ) (events : List Event) (at : ℕ) (s : State M) (rest : List ℕ) (whole : Bool) → IsCut bytes events rest → BeginsLog rules events s →
     at ≡ 4 + length (joined events) → length rest < suc n → is_held at rest ≡ whole → Goes rules bytes n →
     Parts rules bytes (
     if whole

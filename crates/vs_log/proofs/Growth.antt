@@ -16,7 +16,7 @@ use Rattle.vs_binlog.specs.Heads.{Event, length_of}
 use Rattle.vs_log.specs.Events.{is_held, magic, joined}
 use Rattle.vs_log.specs.Table.{Rules, step}
 use Rattle.vs_log.specs.Meaning.{head_refusal, log_of, follow, follow_with, has_magic, log_meant}
-use Rattle.vs_log.specs.Productions.{is_counted, is_nil, Begins, IsCut, IsLog, IsWholeLog, Means}
+use Rattle.vs_log.specs.Productions.{is_counted, is_nil, BeginsLog, IsCut, IsLog, IsWholeLog, Means}
 use Rattle.vs_log.proofs.Moves.{Moves, step_moves}
 use Rattle.vs_log.proofs.Moves.Moves.{formatted, passed_between, passed_named, passed_inside, based, names, singles, begins, saves, maps_on, tells, ends}
 use Rattle.vs_log.proofs.Follows.{means}
@@ -100,7 +100,7 @@ abbrev pub whole_state : {M : Type 0} → List Event → Position → List Entry
 whole_state events base es known = record { base = base; entries = es; known = known; place = Between (is_nil (filter is_counted (drop 1 events))) }
 
 pub whole_begins : {M : Type 0} (rules : Rules M) (events : List Event) (base : Position) (es : List Entry) (known : Position) → IsLog rules events base es known [] →
-    Begins rules events (whole_state events base es known)
+    BeginsLog rules events (whole_state events base es known)
 whole_begins rules [] base es known l = absurd (let h : [] ≡ l.format ∷ l.after = l.are in cc)
 whole_begins rules (e ∷ events) base es known l = record { known = known; opened = []; log = l; begun = (refl, refl); first = refl }
 
@@ -119,7 +119,7 @@ whole_log rules bytes base es w = sym (only rules bytes _ (◌⊎◌.inl (record
 })))
 
 -- the entries of events that begin the log come first
-pub entries_behind : {M : Type 0} (rules : Rules M) (bytes : List ℕ) (events : List Event) (rest : List ℕ) (s : State M) → IsCut bytes events rest → Begins rules events s → Extends s.entries (log_meant rules bytes).entries
+pub entries_behind : {M : Type 0} (rules : Rules M) (bytes : List ℕ) (events : List Event) (rest : List ℕ) (s : State M) → IsCut bytes events rest → BeginsLog rules events s → Extends s.entries (log_meant rules bytes).entries
 entries_behind rules bytes events rest s c b =
     let k = log_behind rules bytes events rest s c b in
     let e = follow_extends k.0 rules (4 + length (joined events)) s rest in

@@ -15,8 +15,8 @@ use Rattle.vs_binlog.specs.Heads.{Event, length_of}
 use Rattle.vs_log.specs.Events.{is_held, last_place, magic, joined, IsEvent}
 use Rattle.vs_log.specs.Table.{Rules, step}
 use Rattle.vs_log.specs.Meaning.{front, has_magic, log_meant}
-use Rattle.vs_log.specs.Productions.{Begins, IsBegun, Stands, Refuses, IsLog, IsWholeLog, Parts, Means}
-use Rattle.vs_log.specs.Laws.{HasNone, IsLongest, IsOfWholeLog}
+use Rattle.vs_log.specs.Productions.{BeginsLog, IsBegun, Stands, RefusesEvent, IsLog, IsWholeLog, Parts, Means}
+use Rattle.vs_log.specs.Laws.{HasNoEntry, IsLongest, IsOfWholeLog}
 use Rattle.vs_log.proofs.Moves.{Moves, chained, step_moves}
 use Rattle.vs_log.proofs.Moves.Moves.{formatted, passed_between, passed_named, passed_inside, based, names, singles, begins, saves, maps_on, tells, ends}
 use Rattle.vs_log.proofs.Shapes.{front_all, left_nil}
@@ -52,7 +52,7 @@ pub closed : {M : Type 0} (rules : Rules M) (known : Position) (opened : List Ev
 closed rules known opened s (Between first) h b = b.0
 closed rules known opened s place h b = absurd (cc)
 
-pub stands : {M : Type 0} (rules : Rules M) (events : List Event) (e : Event) (s : State M) → Begins rules (events ++ e ∷ []) s → Stands rules (events ++ e ∷ []) s
+pub stands : {M : Type 0} (rules : Rules M) (events : List Event) (e : Event) (s : State M) → BeginsLog rules (events ++ e ∷ []) s → Stands rules (events ++ e ∷ []) s
 stands rules [] e s b = b
 stands rules (f ∷ events) e s b = b
 
@@ -87,7 +87,7 @@ front_of (x ∷ xs) (y ∷ ys) e zs h =
     ]
 
 -- no whole log leads to an open entry
-not_open : {M : Type 0} (rules : Rules M) (events : List Event) (s : State M) (b k : Position) (es : List Entry) → Begins rules events s → is_between s.place ≡ false → IsLog rules events b es k [] → ⊥
+not_open : {M : Type 0} (rules : Rules M) (events : List Event) (s : State M) (b k : Position) (es : List Entry) → BeginsLog rules events s → is_between s.place ≡ false → IsLog rules events b es k [] → ⊥
 not_open rules events s b k es begun open_ l =
     let one : s ≡ whole_state events b es k = (takes_beginnings rules).once events s (whole_state events b es k) begun (whole_begins rules events b es k l) in
     let h : false ≡ true = sym open_ ∙ ap (λ z. is_between z.place) one in
@@ -98,7 +98,7 @@ joined_front these tail events h =
     omega (arith, ap (λ z. length (joined z)) h, ap length (joined-append these tail), length-append (joined these) (joined tail))
 
 best_more : {M : Type 0} (rules : Rules M) (events : List Event) (e : Event) (base : Position) (entries : List Entry) (next : State M) → BestOrNone rules events base entries →
-    Begins rules (events ++ e ∷ []) next → is_between next.place ≡ false → BestOrNone rules (events ++ e ∷ []) base entries
+    BeginsLog rules (events ++ e ∷ []) next → is_between next.place ≡ false → BestOrNone rules (events ++ e ∷ []) base entries
 best_more rules events e base entries next (◌⊎◌.inl best) b h = ◌⊎◌.inl (record {
   some = best.some;
   others = best.others ++ e ∷ [];
@@ -119,7 +119,7 @@ best_more rules events e base entries next (◌⊎◌.inr none) b h = ◌⊎◌.
   none.2,
 )
 
-best_step : {M : Type 0} (rules : Rules M) (events : List Event) (s next : State M) (e : Event) → BestOrNone rules events s.base s.entries → Begins rules events s → step rules s e ≡ Ok next →
+best_step : {M : Type 0} (rules : Rules M) (events : List Event) (s next : State M) (e : Event) → BestOrNone rules events s.base s.entries → BeginsLog rules events s → step rules s e ≡ Ok next →
     BestOrNone rules (events ++ e ∷ []) next.base next.entries
 best_step rules events s next e best b h = elim (cases_Bool (is_between next.place)) [
   | ◌⊎◌.inl now ↦ (
@@ -140,7 +140,7 @@ best_step rules events s next e best b h = elim (cases_Bool (is_between next.pla
       )
 ]
 
-best_walk : {M : Type 0} (rules : Rules M) (events more : List Event) (s t : State M) → BestOrNone rules events s.base s.entries → Begins rules events s → walk rules s more ≡ Ok t →
+best_walk : {M : Type 0} (rules : Rules M) (events more : List Event) (s t : State M) → BestOrNone rules events s.base s.entries → BeginsLog rules events s → walk rules s more ≡ Ok t →
     BestOrNone rules (events ++ more) t.base t.entries
 best_walk rules events [] s t best b w =
     let same : s ≡ t = cc in
@@ -154,7 +154,7 @@ none_first : {M : Type 0} (rules : Rules M) → NoneWhole rules []
 none_first rules [] tail b k es h l = let g : [] ≡ l.format ∷ l.after = l.are in cc
 none_first rules (x ∷ xs) tail b k es h l = cc
 
-best_of : {M : Type 0} (rules : Rules M) (events : List Event) (s : State M) → Begins rules events s → BestOrNone rules events s.base s.entries
+best_of : {M : Type 0} (rules : Rules M) (events : List Event) (s : State M) → BeginsLog rules events s → BestOrNone rules events s.base s.entries
 best_of rules events s b = best_walk rules [] events front s (◌⊎◌.inr (none_first rules, refl, refl)) refl (complete rules events s b)
 
 -- two ways to cut one list of bytes: one has the events of the other at its front
@@ -178,13 +178,13 @@ cut_fronts (e ∷ xs) (f ∷ ys) r q a b h =
     ]
 
 -- where an event is refused, no log goes on with it
-not_on : {M : Type 0} (rules : Rules M) (events tail : List Event) (s t : State M) (at : ℕ) (rest more : List ℕ) (e : Event) (why : Option Why) → Begins rules events s → Refuses rules s at rest why →
-    rest ≡ e ++ more → IsEvent e → at + length e ≤ last_place → Begins rules (events ++ e ∷ tail) t → ⊥
+not_on : {M : Type 0} (rules : Rules M) (events tail : List Event) (s t : State M) (at : ℕ) (rest more : List ℕ) (e : Event) (why : Option Why) → BeginsLog rules events s → RefusesEvent rules s at rest why →
+    rest ≡ e ++ more → IsEvent e → at + length e ≤ last_place → BeginsLog rules (events ++ e ∷ tail) t → ⊥
 not_on rules events tail s t at rest more e why b r are is short also = go why r where
   whole : is_held at rest ≡ true
   whole = ap (λ z. is_held at z) are ∙ holds at e more is short
 
-  go : (why : Option Why) → Refuses rules s at rest why → ⊥
+  go : (why : Option Why) → RefusesEvent rules s at rest why → ⊥
   go None h = let never : true ≡ false = sym whole ∙ h.0 in cc
   go (Some w) (◌⊎◌.inr h) = let never : true ≡ false = sym whole ∙ h.0 in cc
   go (Some w) (◌⊎◌.inl x) =
@@ -197,7 +197,7 @@ front_events : {M : Type 0} (rules : Rules M) (bytes first more : List ℕ) (b :
 front_events rules bytes first more b es log p are w = elim (cut_fronts w.events p.events more p.rest w.cut.whole p.cut.whole same) [
   | ◌⊎◌.inl t ↦ t
   | ◌⊎◌.inr u ↦ absurd (not_on rules p.events u.1 p.state (whole_state w.events b es w.known) (4 + length (joined p.events)) p.rest (joined u.1 ++ more) u.0 p.why p.begins p.refused u.3 u.4
-      (short u.0 u.1 u.2) (subst (λ z. Begins rules z (whole_state w.events b es w.known)) u.2 (whole_begins rules w.events b es w.known w.log)))
+      (short u.0 u.1 u.2) (subst (λ z. BeginsLog rules z (whole_state w.events b es w.known)) u.2 (whole_begins rules w.events b es w.known w.log)))
 ]
   where
     same : joined w.events ++ more ≡ joined p.events ++ p.rest
@@ -218,7 +218,7 @@ whole_length : {M : Type 0} (rules : Rules M) (first : List ℕ) (b : Position) 
 whole_length rules first b es w = omega (arith, ap length w.cut.are, ap length (append-nil (joined w.events)))
 
 abbrev LongestOrNone : {M : Type 0} → Rules M → List ℕ → Position → List Entry → Type 0
-LongestOrNone rules bytes base entries = IsLongest rules bytes base entries ⊎ (HasNone rules bytes × (base ≡ []) × (entries ≡ []))
+LongestOrNone rules bytes base entries = IsLongest rules bytes base entries ⊎ (HasNoEntry rules bytes × (base ≡ []) × (entries ≡ []))
 
 longest_parts : {M : Type 0} (rules : Rules M) (bytes : List ℕ) (log : Log) (p : Parts rules bytes log) (base : Position) (entries : List Entry) → Best rules p.events base entries → IsLongest rules bytes base entries
 longest_parts rules bytes log p base entries best = record {

@@ -13,7 +13,7 @@ use Rattle.vs_binlog.specs.Heads.{Event, length_of}
 use Rattle.vs_log.specs.Events.{is_held, last_place, magic, joined, IsEvent}
 use Rattle.vs_log.specs.Table.{Rules, step}
 use Rattle.vs_log.specs.Meaning.{front, head_refusal, log_of, log_unread, follow, follow_with, has_magic, log_meant}
-use Rattle.vs_log.specs.Productions.{Begins, IsCut, Refuses, Parts, Means}
+use Rattle.vs_log.specs.Productions.{BeginsLog, IsCut, RefusesEvent, Parts, Means}
 use Rattle.vs_log.specs.Laws.{MeansByProductions}
 use Rattle.vs_log.proofs.Moves.{chained}
 use Rattle.vs_log.proofs.Cuts.{length_of-append, holds, head_taken, head_dropped}
@@ -71,7 +71,7 @@ follow_walk tell (suc n) rules at s t (e ∷ events) rest a short w l =
     )
 
 -- the reading stops where the rest is refused, or isn't whole
-pub follow_stops : {M : Type 0} {A : Type 0} (tell : State M → ℕ → Option Why → A) (n : ℕ) (rules : Rules M) (at : ℕ) (s : State M) (rest : List ℕ) (why : Option Why) → length rest < n → Refuses rules s at rest why → follow_with tell n rules at s rest ≡ tell s at why
+pub follow_stops : {M : Type 0} {A : Type 0} (tell : State M → ℕ → Option Why → A) (n : ℕ) (rules : Rules M) (at : ℕ) (s : State M) (rest : List ℕ) (why : Option Why) → length rest < n → RefusesEvent rules s at rest why → follow_with tell n rules at s rest ≡ tell s at why
 follow_stops tell zero rules at s rest why l r = absurd (omega arith)
 follow_stops tell (suc n) rules at s rest None l r = follow_turn tell n rules at s rest false r.0 ∙ ap (λ z. tell s at z) r.1
 follow_stops tell (suc n) rules at s rest (Some why) l (◌⊎◌.inl w) =
@@ -94,7 +94,7 @@ unfolding log_meant
 log_from rules bytes right h = ap (λ b. if b then follow (suc (length bytes)) rules 4 front (drop 4 bytes) else log_unread (Some BadMagic)) h
 
 -- what the log is behind events that begin it
-pub log_behind : {M : Type 0} (rules : Rules M) (bytes : List ℕ) (events : List Event) (rest : List ℕ) (s : State M) → IsCut bytes events rest → Begins rules events s →
+pub log_behind : {M : Type 0} (rules : Rules M) (bytes : List ℕ) (events : List Event) (rest : List ℕ) (s : State M) → IsCut bytes events rest → BeginsLog rules events s →
     (m : ℕ) × (length rest < m) × (log_meant rules bytes ≡ follow m rules (4 + length (joined events)) s rest)
 log_behind rules bytes events rest s c b =
     let n = suc (length (magic ++ (joined events ++ rest))) in

@@ -21,7 +21,7 @@ use Rattle.vs_binlog.specs.Heads.{Event, time_of, length_of, body_of}
 use Rattle.vs_log.specs.Events.{sort_of, limit}
 use Rattle.vs_log.specs.Table.{Rules, single_work, size, sum_with, bytes_with, ended, with_base, named, step}
 use Rattle.vs_log.specs.Meaning.{front}
-use Rattle.vs_log.specs.Productions.{counts, is_counted, total, in_turn, is_nil, is_first, IsBase, IsMiddle, IsWork, IsGtid, Says, IsUnended, IsEntry, IsNew, IsNamed, Ends, AreEntries, IsLog, IsBegun, Stands, Begins}
+use Rattle.vs_log.specs.Productions.{counts, is_counted, total, in_turn, is_nil, is_first, IsBase, IsMiddle, IsWork, IsGtid, Says, IsUnended, IsEntry, IsNew, IsNamed, Ends, AreEntries, IsLog, IsBegun, Stands, BeginsLog}
 use Rattle.vs_log.proofs.Moves.{Moves, inside, step_moves}
 use Rattle.vs_log.proofs.Moves.Moves.{formatted, passed_between, passed_named, passed_inside, based, names, singles, begins, saves, maps_on, tells, ends}
 use Rattle.vs_log.proofs.Shapes.{all_more, total-append, in_turn-more, entries_more, left_nil, right_nil, no_entries, nil_from, is_nil-more, filter_more, filter_same, middle_more, work_more}
@@ -264,7 +264,7 @@ sound_first rules base known entries next e b n es fits (formatted is) = record 
 }
 
 -- what is taken goes on with the beginning of a log
-pub sound_step : {M : Type 0} (rules : Rules M) (events : List Event) (s next : State M) (e : Event) → Begins rules events s → step rules s e ≡ Ok next → Begins rules (events ++ e ∷ []) next
+pub sound_step : {M : Type 0} (rules : Rules M) (events : List Event) (s next : State M) (e : Event) → BeginsLog rules events s → step rules s e ≡ Ok next → BeginsLog rules (events ++ e ∷ []) next
 unfolding bytes_with
 sound_step {M} rules [] s next e b h =
     let m = step_moves rules front e next (subst (λ z. step rules z e ≡ Ok next) b h) in

@@ -11,7 +11,7 @@ use Rattle.vs_binlog.specs.Heads.{Event, length_of}
 use Rattle.vs_log.specs.Events.{IsPart, is_held, joined, last_place, magic}
 use Rattle.vs_log.specs.Table.{Rules, step}
 use Rattle.vs_log.specs.Meaning.{front, has_magic, head_refusal, is_base_known, knows_base, log_meant, log_of, log_unread}
-use Rattle.vs_log.specs.Productions.{Begins, EntryEndsAt, IsCut, Refuses}
+use Rattle.vs_log.specs.Productions.{BeginsLog, EntryEndsAt, IsCut, RefusesEvent}
 use Rattle.vs_log.specs.Steps.{Reaches, next_state, open_gtid, result_with_past, with_past}
 use Rattle.vs_log.specs.Laws.{OpensOrEnds, ReadsInSteps, TellsEntries}
 use Rattle.vs_log.proofs.Bases.{knows_its_base, step_keeps, step_leaves}
@@ -54,26 +54,26 @@ took {M} rules at s rest next h = go (is_held at rest) (step rules s (take (leng
   go false r p q k = absurd (cc)
 
 -- nothing whole is left, or it is refused
-refuses : {M : Type 0} (rules : Rules M) (at : ℕ) (s : State M) (rest : List ℕ) (why : Option Why) → next_state rules at s rest ≡ Err why → Refuses rules s at rest why
+refuses : {M : Type 0} (rules : Rules M) (at : ℕ) (s : State M) (rest : List ℕ) (why : Option Why) → next_state rules at s rest ≡ Err why → RefusesEvent rules s at rest why
 refuses {M} rules at s rest why h = go (is_held at rest) (step rules s (take (length_of rest) rest)) (head_refusal at s.place rest) refl refl refl (sym (turn rules at s rest) ∙ h) where
-  of_head : (refusal why : Option Why) → is_held at rest ≡ false → head_refusal at s.place rest ≡ refusal → refusal ≡ why → Refuses rules s at rest why
+  of_head : (refusal why : Option Why) → is_held at rest ≡ false → head_refusal at s.place rest ≡ refusal → refusal ≡ why → RefusesEvent rules s at rest why
   of_head None None p q k = (p, q)
   of_head None (Some w) p q k = absurd (cc)
   of_head (Some v) None p q k = absurd (cc)
   of_head (Some v) (Some w) p q k = ◌⊎◌.inr (p, q ∙ k)
 
   go : (b : Bool) (r : Result (State M) Why) (refusal : Option Why) → is_held at rest ≡ b → step rules s (take (length_of rest) rest) ≡ r → head_refusal at s.place rest ≡ refusal →
-      one_turn b r refusal ≡ Err why → Refuses rules s at rest why
+      one_turn b r refusal ≡ Err why → RefusesEvent rules s at rest why
   go true (Ok n) refusal p q f k = absurd (cc)
   go true (Err w) refusal p q f k =
       let h = held at rest p in
       let e : Some w ≡ why = cc in
-      subst (λ z. Refuses rules s at rest z) e
+      subst (λ z. RefusesEvent rules s at rest z) e
       (◌⊎◌.inl (record { event = take (length_of rest) rest; more = drop (length_of rest) rest; are = h.are; whole = h.whole; short = subst (λ z. at + z ≤ last_place) (sym h.long) h.short; refused = q }))
   go false r refusal p q f k = of_head refusal why p f (let e : refusal ≡ why = cc in e)
 
 -- and the other way round
-stops : {M : Type 0} (rules : Rules M) (at : ℕ) (s : State M) (rest : List ℕ) (why : Why) → Refuses rules s at rest (Some why) → next_state rules at s rest ≡ Err (Some why)
+stops : {M : Type 0} (rules : Rules M) (at : ℕ) (s : State M) (rest : List ℕ) (why : Why) → RefusesEvent rules s at rest (Some why) → next_state rules at s rest ≡ Err (Some why)
 stops rules at s rest why (◌⊎◌.inl w) =
     let is_there : is_held at rest ≡ true = ap (λ z. is_held at z) w.are ∙ holds at w.event w.more w.whole w.short in
     let event : take (length_of rest) rest ≡ w.event = ap (λ z. take (length_of z) z) w.are ∙ head_taken w.event w.more w.whole in
@@ -122,7 +122,7 @@ record IsOn {M : Type 0} (rules : Rules M) (bytes : List ℕ) (at : ℕ) (s next
   cut : IsCut bytes (r.events ++ event ∷ []) (drop (at + length_of (drop at bytes)) bytes)
   place : at + length_of (drop at bytes) ≡ 4 + length (joined (r.events ++ event ∷ []))
   stepped : step rules s event ≡ Ok next
-  begins : Begins rules (r.events ++ event ∷ []) next
+  begins : BeginsLog rules (r.events ++ event ∷ []) next
 
 on : {M : Type 0} (rules : Rules M) (bytes : List ℕ) (at : ℕ) (s next : State M) (r : Reaches rules bytes at s) → next_state rules at s (drop at bytes) ≡ Ok next → IsOn rules bytes at s next r
 on rules bytes at s next r h =
@@ -145,7 +145,7 @@ leads rules bytes at s next r h = let o = on rules bytes at s next r h in record
 ends : {M : Type 0} (rules : Rules M) (bytes : List ℕ) (at : ℕ) (s : State M) (why : Option Why) → Reaches rules bytes at s → next_state rules at s (drop at bytes) ≡ Err why →
     (log_meant rules bytes ≡ log_of s at why) × (knows_base rules bytes ≡ is_base_known s.place why)
 ends rules bytes at s why r h =
-    let refused = subst (λ z. Refuses rules s z (drop at bytes) why) r.place (refuses rules at s (drop at bytes) why h) in (
+    let refused = subst (λ z. RefusesEvent rules s z (drop at bytes) why) r.place (refuses rules at s (drop at bytes) why h) in (
       sym (only rules bytes _ (◌⊎◌.inl (record {
         events = r.events;
         rest = drop at bytes;

@@ -17,16 +17,16 @@ use Rattle.vs_binlog.specs.Heads.{Event, length_of}
 use Rattle.vs_log.specs.Table.{Rules, more_work, step}
 use Rattle.vs_log.specs.Events.{IsPart, joined, last_place}
 use Rattle.vs_log.specs.Meaning.{front, has_magic, is_base_known, knows_base, log_meant, log_of, log_unread}
-use Rattle.vs_log.specs.Productions.{Begins, EntryEndsAt, IsCut, IsWholeLog, Means, Refuses, StandsAt}
+use Rattle.vs_log.specs.Productions.{BeginsLog, EntryEndsAt, IsCut, IsWholeLog, Means, RefusesEvent, StandsAt}
 use Rattle.vs_log.specs.Steps.{Reaches, next_state, open_gtid, result_with_past, with_past}
 
 -- The table takes an event where, and only where, the beginning of a log goes on with it.
 pub record TakesBeginnings {M : Type 0} (rules : Rules M) : Type 0 where
-  pub takes : (events : List Event) (s next : State M) (e : Event) → Begins rules events s → step rules s e ≡ Ok next → Begins rules (events ++ e ∷ []) next
+  pub takes : (events : List Event) (s next : State M) (e : Event) → BeginsLog rules events s → step rules s e ≡ Ok next → BeginsLog rules (events ++ e ∷ []) next
   -- nothing that begins a log goes on with what is refused, whatever follows
-  pub refuses : (events more : List Event) (s t : State M) (e : Event) (why : Why) → Begins rules events s → step rules s e ≡ Err why → Begins rules (events ++ e ∷ more) t → ⊥
+  pub refuses : (events more : List Event) (s t : State M) (e : Event) (why : Why) → BeginsLog rules events s → step rules s e ≡ Err why → BeginsLog rules (events ++ e ∷ more) t → ⊥
   -- what begins a log does so in one way
-  pub once : (events : List Event) (s t : State M) → Begins rules events s → Begins rules events t → s ≡ t
+  pub once : (events : List Event) (s t : State M) → BeginsLog rules events s → BeginsLog rules events t → s ≡ t
 
 -- What bytes mean by the table is what they mean by the productions, and nothing else is.
 pub record MeansByProductions {M : Type 0} (rules : Rules M) (bytes : List ℕ) : Type 0 where
@@ -47,10 +47,10 @@ pub record Grows {M : Type 0} (rules : Rules M) (bytes more : List ℕ) : Type 0
 
 -- When the base is known, by the beginning of a log that the bytes are.
 pub record KnowsItsBase {M : Type 0} (rules : Rules M) (bytes : List ℕ) : Type 0 where
-  pub parts : (events : List Event) (s : State M) (rest : List ℕ) (why : Option Why) → IsCut bytes events rest → Begins rules events s → Refuses rules s (4 + length (joined events)) rest why →
+  pub parts : (events : List Event) (s : State M) (rest : List ℕ) (why : Option Why) → IsCut bytes events rest → BeginsLog rules events s → RefusesEvent rules s (4 + length (joined events)) rest why →
       knows_base rules bytes ≡ is_base_known s.place why
   -- once it is known, it is the log's base, whatever follows
-  pub behind : (events : List Event) (s : State M) (rest : List ℕ) → IsCut bytes events rest → Begins rules events s → is_base_known s.place None ≡ true →
+  pub behind : (events : List Event) (s : State M) (rest : List ℕ) → IsCut bytes events rest → BeginsLog rules events s → is_base_known s.place None ≡ true →
       (knows_base rules bytes ≡ true) × ((log_meant rules bytes).base ≡ s.base)
   pub short : has_magic bytes ≡ true → length bytes < 4 → knows_base rules bytes ≡ false
   pub none : has_magic bytes ≡ false → knows_base rules bytes ≡ false
@@ -62,8 +62,8 @@ pub record KnowsItsBase {M : Type 0} (rules : Rules M) (bytes : List ℕ) : Type
   pub entries : 1 ≤ length (log_meant rules bytes).entries → knows_base rules bytes ≡ true
 
 -- no front of the bytes is a whole log
-abbrev pub HasNone : {M : Type 0} → Rules M → List ℕ → Type 0
-HasNone rules bytes = (front more : List ℕ) (base : Position) (es : List Entry) → bytes ≡ front ++ more → IsWholeLog rules front base es → ⊥
+abbrev pub HasNoEntry : {M : Type 0} → Rules M → List ℕ → Type 0
+HasNoEntry rules bytes = (front more : List ℕ) (base : Position) (es : List Entry) → bytes ≡ front ++ more → IsWholeLog rules front base es → ⊥
 
 -- these are the base and the entries of the longest front of the bytes that is a whole log
 pub record IsLongest {M : Type 0} (rules : Rules M) (bytes : List ℕ) (base : Position) (entries : List Entry) : Type 0 where
@@ -76,7 +76,7 @@ pub record IsLongest {M : Type 0} (rules : Rules M) (bytes : List ℕ) (base : P
 -- The base and the entries are those of the longest front that is a whole log. Where no front is one, there are none.
 pub record IsOfWholeLog {M : Type 0} (rules : Rules M) (bytes : List ℕ) : Type 0 where
   pub some : IsLongest rules bytes (log_meant rules bytes).base (log_meant rules bytes).entries
-      ⊎ (HasNone rules bytes × ((log_meant rules bytes).base ≡ []) × ((log_meant rules bytes).entries ≡ []))
+      ⊎ (HasNoEntry rules bytes × ((log_meant rules bytes).base ≡ []) × ((log_meant rules bytes).entries ≡ []))
   -- what a whole log at the front has, comes first
   pub fronts : (front more : List ℕ) (base : Position) (es : List Entry) → bytes ≡ front ++ more → IsWholeLog rules front base es → (later : List Entry) × ((log_meant rules bytes).entries ≡ es ++ later)
 

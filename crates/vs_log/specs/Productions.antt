@@ -186,9 +186,9 @@ pub record Stands {M : Type 0} (rules : Rules M) (events : List Event) (s : Stat
   pub begun : IsBegun rules known opened s s.place
   pub first : is_first s.place ≡ is_nil (filter is_counted (drop 1 events))
 
-abbrev pub Begins : {M : Type 0} → Rules M → List Event → State M → Type 0
-Begins rules [] s = s ≡ front
-Begins rules (e ∷ es) s = Stands rules (e ∷ es) s
+abbrev pub BeginsLog : {M : Type 0} → Rules M → List Event → State M → Type 0
+BeginsLog rules [] s = s ≡ front
+BeginsLog rules (e ∷ es) s = Stands rules (e ∷ es) s
 
 -- Bytes are the magic, whole events, and a rest. Each event ends by the last place.
 pub record IsCut (bytes : List ℕ) (events : List Event) (rest : List ℕ) : Type 0 where
@@ -204,7 +204,7 @@ pub record StandsAt {M : Type 0} (rules : Rules M) (bytes : List ℕ) (g : Gtid)
   pub cut : IsCut bytes (before ++ event ∷ []) rest
   pub place : at ≡ 4 + length (joined before)
   pub state : State M
-  pub begins : Begins rules (before ++ event ∷ []) state
+  pub begins : BeginsLog rules (before ++ event ∷ []) state
   pub names : IsGtid event g
 
 -- The entry behind n others ends at this place: the events up to there begin a log of n + 1 entries, and without the last of them one of n.
@@ -215,10 +215,10 @@ pub record EntryEndsAt {M : Type 0} (rules : Rules M) (bytes : List ℕ) (n at :
   pub cut : IsCut bytes (before ++ last ∷ []) rest
   pub place : at ≡ 4 + length (joined (before ++ last ∷ []))
   pub without : State M
-  pub begins_without : Begins rules before without
+  pub begins_without : BeginsLog rules before without
   pub few : length without.entries ≡ n
   pub state : State M
-  pub begins : Begins rules (before ++ last ∷ []) state
+  pub begins : BeginsLog rules (before ++ last ∷ []) state
   pub more : length state.entries ≡ n + 1
 
 -- a whole log
@@ -238,11 +238,11 @@ pub record IsWrong {M : Type 0} (rules : Rules M) (s : State M) (at : ℕ) (rest
   pub refused : step rules s event ≡ Err why
 
 -- what is wrong with the event at the front of the rest, if it is whole; of one that isn't, by its head
-abbrev pub Refuses : {M : Type 0} → Rules M → State M → ℕ → List ℕ → Option Why → Type 0
-Refuses rules s at rest (Some why) =
+abbrev pub RefusesEvent : {M : Type 0} → Rules M → State M → ℕ → List ℕ → Option Why → Type 0
+RefusesEvent rules s at rest (Some why) =
     IsWrong rules s at rest why
     ⊎ ((is_held at rest ≡ false) × (head_refusal at s.place rest ≡ Some why))
-Refuses rules s at rest None = (is_held at rest ≡ false) × (head_refusal at s.place rest ≡ None)
+RefusesEvent rules s at rest None = (is_held at rest ≡ false) × (head_refusal at s.place rest ≡ None)
 
 -- The bytes are events that begin a log, and a rest, which is wrong or may go on.
 pub record Parts {M : Type 0} (rules : Rules M) (bytes : List ℕ) (log : Log) : Type 0 where
@@ -250,9 +250,9 @@ pub record Parts {M : Type 0} (rules : Rules M) (bytes : List ℕ) (log : Log) :
   pub rest : List ℕ
   pub cut : IsCut bytes events rest
   pub state : State M
-  pub begins : Begins rules events state
+  pub begins : BeginsLog rules events state
   pub why : Option Why
-  pub refused : Refuses rules state (4 + length (joined events)) rest why
+  pub refused : RefusesEvent rules state (4 + length (joined events)) rest why
   pub is : log ≡ log_of state (4 + length (joined events)) why
 
 -- the bytes are less than the magic, and are its front

@@ -9,14 +9,14 @@ use Rattle.vs_log.specs.States.{Place, State}
 use Rattle.vs_log.specs.States.Place.{Front, Between, Named, Inside}
 use Rattle.vs_log.specs.Table.{Rules, step}
 use Rattle.vs_log.specs.Meaning.{head_refusal}
-use Rattle.vs_log.specs.Productions.{Begins, IsCut}
+use Rattle.vs_log.specs.Productions.{BeginsLog, IsCut}
 
 -- The bytes up to this place are events that begin a log, which stands so there.
 pub record Reaches {M : Type 0} (rules : Rules M) (bytes : List ℕ) (at : ℕ) (s : State M) : Type 0 where
   pub events : List Event
   pub cut : IsCut bytes events (drop at bytes)
   pub place : at ≡ 4 + length (joined events)
-  pub begins : Begins rules events s
+  pub begins : BeginsLog rules events s
 
 -- What the event at the front of the rest, which begins at this place, makes of a log that stands so. Or that none is taken, and what is wrong with it; nothing is, where it isn't whole and more may come.
 abbrev pub next_state : {M : Type 0} → Rules M → ℕ → State M → List ℕ → Result (State M) (Option Why)

@@ -11,7 +11,7 @@ use Rattle.vs_proto.specs.declared.refusal.Fault.TheVariants.{Wire, NotUtf8}
 use Rattle.vs_proto.specs.declared.refusal.Stop.{Stop}
 use Rattle.vs_proto.specs.declared.refusal.Stop.TheVariants as stops
 use Rattle.vs_proto.specs.declared.refusal.ProtoRefusal.{ProtoRefusal}
-use Rattle.vs_proto.specs.Answers.{ReadsInto, Refuses, Stops, place_of, refusal_at}
+use Rattle.vs_proto.specs.Answers.{ReadsInto, RefusesMessage, Stops, place_of, refusal_at}
 use Rattle.vs_proto.specs.Shapes.{Shape, take_field, placed_at, ended, read_walk, take_fields}
 
 pub read_first : {M : Type 0} (shape : Shape M) (m : M) (f : Placed) (w : Walk) →
@@ -37,15 +37,15 @@ goes_on shape m new f w rest read e was taken =
     ∙ sym (read_first shape m f rest) ∙ ap (λ v. read_walk shape m v) (sym e) ∙ was
 
 refuses_at : {M : Type 0} (at : ℕ) (stop : Stop) (taken : Result M Fault) (on : M → Result M (ℕ × Fault)) → Stops stop taken →
-    Refuses (refusal_at at stop) (placed_at at taken >>= on)
+    RefusesMessage (refusal_at at stop) (placed_at at taken >>= on)
 refuses_at at stops.Memory taken on h = tt
 refuses_at at (stops.Bad (Wire why)) taken on h = ap (λ t. placed_at at t >>= on) h
 refuses_at at (stops.Bad NotUtf8) taken on h = ap (λ t. placed_at at t >>= on) h
 
 pub stops_at : {M : Type 0} (shape : Shape M) (m : M) (f : Placed) (w rest : Walk) (read : Result M (ℕ × Fault)) (stop : Stop) →
-    w ≡ with_first f rest → read_walk shape m w ≡ read → Stops stop (take_field shape.slots m f.field f.value) → Refuses (refusal_at f.at stop) read
+    w ≡ with_first f rest → read_walk shape m w ≡ read → Stops stop (take_field shape.slots m f.field f.value) → RefusesMessage (refusal_at f.at stop) read
 stops_at {M} shape m f w rest read stop e was h =
-    let P : Result M (ℕ × Fault) → Type 0 = λ r. Refuses (refusal_at f.at stop) r in
+    let P : Result M (ℕ × Fault) → Type 0 = λ r. RefusesMessage (refusal_at f.at stop) r in
     subst P (sym (read_first shape m f rest) ∙ ap (λ v. read_walk shape m v) (sym e) ∙ was)
     (refuses_at f.at stop (take_field shape.slots m f.field f.value) (λ m'. read_walk shape m' rest) h)
 

@@ -16,24 +16,24 @@ Stops stops.Memory read = Unit {0}
 Stops (stops.Bad fault) read = read ≡ Err fault
 
 -- the slot is now what taking gives, unless it stops
-abbrev pub Takes : {A : Type 0} → Result (Unit {0}) Stop → A → Result A Fault → Type 0
-Takes (Ok u) new read = read ≡ Ok new
-Takes (Err e) new read = Stops e read
+abbrev pub TakesField : {A : Type 0} → Result (Unit {0}) Stop → A → Result A Fault → Type 0
+TakesField (Ok u) new read = read ≡ Ok new
+TakesField (Err e) new read = Stops e read
 
-abbrev pub Refuses : {A : Type 0} → ProtoRefusal → Result A (ℕ × Fault) → Type 0
-Refuses refusals.Memory read = Unit {0}
-Refuses (refusals.BadMessage at why) read = read ≡ Err (at, faults.Wire why)
-Refuses (refusals.NotUtf8 at) read = read ≡ Err (at, faults.NotUtf8)
+abbrev pub RefusesMessage : {A : Type 0} → ProtoRefusal → Result A (ℕ × Fault) → Type 0
+RefusesMessage refusals.Memory read = Unit {0}
+RefusesMessage (refusals.BadMessage at why) read = read ≡ Err (at, faults.Wire why)
+RefusesMessage (refusals.NotUtf8 at) read = read ≡ Err (at, faults.NotUtf8)
 
 -- the message that reading gives, or its fault, or want of memory
-abbrev pub Reads : {A : Type 0} → Result A ProtoRefusal → Result A (ℕ × Fault) → Type 0
-Reads (Ok m) read = read ≡ Ok m
-Reads (Err e) read = Refuses e read
+abbrev pub ReadsMessage : {A : Type 0} → Result A ProtoRefusal → Result A (ℕ × Fault) → Type 0
+ReadsMessage (Ok m) read = read ≡ Ok m
+ReadsMessage (Err e) read = RefusesMessage e read
 
 -- the same where the message is left in new
 abbrev pub ReadsInto : {A : Type 0} → Result (Unit {0}) ProtoRefusal → A → Result A (ℕ × Fault) → Type 0
 ReadsInto (Ok u) new read = read ≡ Ok new
-ReadsInto (Err e) new read = Refuses e read
+ReadsInto (Err e) new read = RefusesMessage e read
 
 abbrev pub refusal_at : ℕ → Stop → ProtoRefusal
 refusal_at at stops.Memory = refusals.Memory

@@ -1,5 +1,5 @@
 ghost use Rattle.std.specs.Prelude.{◌≡◌, ◌++◌, OnErr, OnOk, true};
-ghost use Rattle.vs_proto.specs.Answers.{Reads};
+ghost use Rattle.vs_proto.specs.Answers.{ReadsMessage};
 ghost use Rattle.vs_proto.specs.Shapes.{read, spelling};
 ghost use Rattle.vs_proto.specs.Tables.{event, journal, request, response, vgtid};
 
@@ -16,35 +16,35 @@ use std::alloc::Global;
 
 /// Reads the request of a client. Unknown fields are passed over.
 pub fn read_request(alloc: Global, bytes: &[u8]) -> Result<VStreamRequest, ProtoRefusal>
-    ensures { Reads result (read (request true) bytes.now) }
+    ensures { ReadsMessage result (read (request true) bytes.now) }
 {
     read_message(alloc, bytes)
 }
 
 /// Reads the events of a frame. Unknown fields are passed over.
 pub fn read_response(alloc: Global, bytes: &[u8]) -> Result<VStreamResponse, ProtoRefusal>
-    ensures { Reads result (read (response true) bytes.now) }
+    ensures { ReadsMessage result (read (response true) bytes.now) }
 {
     read_message(alloc, bytes)
 }
 
 /// Reads one event. Unknown fields are passed over.
 pub fn read_event(alloc: Global, bytes: &[u8]) -> Result<VEvent, ProtoRefusal>
-    ensures { Reads result (read (event true) bytes.now) }
+    ensures { ReadsMessage result (read (event true) bytes.now) }
 {
     read_message(alloc, bytes)
 }
 
 /// Reads a position vector. Unknown fields are passed over.
 pub fn read_vgtid(alloc: Global, bytes: &[u8]) -> Result<VGtid, ProtoRefusal>
-    ensures { Reads result (read (vgtid true) bytes.now) }
+    ensures { ReadsMessage result (read (vgtid true) bytes.now) }
 {
     read_message(alloc, bytes)
 }
 
 /// Reads a reshard journal. Unknown fields are passed over.
 pub fn read_journal(alloc: Global, bytes: &[u8]) -> Result<Journal, ProtoRefusal>
-    ensures { Reads result (read (journal true) bytes.now) }
+    ensures { ReadsMessage result (read (journal true) bytes.now) }
 {
     read_message(alloc, bytes)
 }

@@ -1,6 +1,6 @@
 ghost use Rattle.std.specs.Prelude.{◌≡◌, OnOk};
 ghost use Rattle.vs_wire.specs.Seen.{seen_value};
-ghost use Rattle.vs_proto.specs.Answers.{Takes};
+ghost use Rattle.vs_proto.specs.Answers.{TakesField};
 ghost use Rattle.vs_proto.specs.Shapes.{Shape, slots_before, take_field};
 
 use crate::OutOfMemory;
@@ -23,7 +23,7 @@ pub(crate) trait Message: Drop {
 
     /// Takes the value of one field, unless its number is unknown.
     fn take(&mut self, alloc: Global, number: u32, value: FieldValue<'_>) -> Result<(), Stop>
-        ensures { Takes result self.new (take_field shape.slots self.old number (seen_value value.entry)) };
+        ensures { TakesField result self.new (take_field shape.slots self.old number (seen_value value.entry)) };
 
     /// Writes its fields in front, the last one first.
     fn put(&self, out: &mut Backward) -> Result<(), OutOfMemory>

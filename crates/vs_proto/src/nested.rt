@@ -1,7 +1,7 @@
 ghost use Rattle.std.specs.Prelude.{◌≡◌, ◌<◌, ◌^◌, ◌++◌, OnOk};
 ghost use Rattle.vs_wire.specs.Fields.{field_bytes, sized};
 ghost use Rattle.vs_wire.specs.Seen.{seen_value};
-ghost use Rattle.vs_proto.specs.Answers.{Takes};
+ghost use Rattle.vs_proto.specs.Answers.{TakesField};
 ghost use Rattle.vs_proto.specs.Shapes.{
   all_set,
   if_set,
@@ -27,7 +27,7 @@ pub(crate) fn take_one<M: Message>(
     slot: &mut Option<M>,
     value: FieldValue<'_>,
 ) -> Result<(), Stop>
-    ensures { Takes result slot.new (one_taken M.shape slot.old (seen_value value.entry)) }
+    ensures { TakesField result slot.new (one_taken M.shape slot.old (seen_value value.entry)) }
 {
     if let FieldValue::Bytes(bytes) = value {
         let mut message = match slot.take() {
@@ -49,7 +49,7 @@ pub(crate) fn take_more<M: Message>(
     slot: &mut List<M>,
     value: FieldValue<'_>,
 ) -> Result<(), Stop>
-    ensures { Takes result slot.new (more_taken M.shape slot.old (seen_value value.entry)) }
+    ensures { TakesField result slot.new (more_taken M.shape slot.old (seen_value value.entry)) }
 {
     if let FieldValue::Bytes(bytes) = value {
         match read_message(alloc, bytes) {

@@ -1,6 +1,6 @@
 ghost use Rattle.std.specs.Prelude.{◌≡◌, ◌<◌, ◌^◌, ◌++◌, OnOk};
 ghost use Rattle.vs_wire.specs.Seen.{seen_value};
-ghost use Rattle.vs_proto.specs.Answers.{Takes};
+ghost use Rattle.vs_proto.specs.Answers.{TakesField};
 ghost use Rattle.vs_proto.specs.Kinds.{enumeration, flag as flag_kind, if_some, int64, uint64};
 ghost use Rattle.vs_proto.specs.Shapes.{values_bytes};
 
@@ -11,7 +11,7 @@ use crate::refusal::Stop;
 use vs_wire::FieldValue;
 
 pub(crate) fn take_u64(slot: &mut u64, value: FieldValue<'_>) -> Result<(), Stop>
-    ensures { Takes result slot.new (uint64.taken slot.old (seen_value value.entry)) }
+    ensures { TakesField result slot.new (uint64.taken slot.old (seen_value value.entry)) }
 {
     if let FieldValue::Varint(n) = value {
         *slot = n;
@@ -20,7 +20,7 @@ pub(crate) fn take_u64(slot: &mut u64, value: FieldValue<'_>) -> Result<(), Stop
 }
 
 pub(crate) fn take_i64(slot: &mut i64, value: FieldValue<'_>) -> Result<(), Stop>
-    ensures { Takes result slot.new (int64.taken slot.old (seen_value value.entry)) }
+    ensures { TakesField result slot.new (int64.taken slot.old (seen_value value.entry)) }
 {
     if let FieldValue::Varint(n) = value {
         *slot = n.cast_signed();
@@ -30,7 +30,7 @@ pub(crate) fn take_i64(slot: &mut i64, value: FieldValue<'_>) -> Result<(), Stop
 
 /// Takes the low 32 bits.
 pub(crate) fn take_enum(slot: &mut i32, value: FieldValue<'_>) -> Result<(), Stop>
-    ensures { Takes result slot.new (enumeration.taken slot.old (seen_value value.entry)) }
+    ensures { TakesField result slot.new (enumeration.taken slot.old (seen_value value.entry)) }
 {
     if let FieldValue::Varint(n) = value {
         *slot = ((n % 0x1_0000_0000) as u32).cast_signed();
@@ -39,7 +39,7 @@ pub(crate) fn take_enum(slot: &mut i32, value: FieldValue<'_>) -> Result<(), Sto
 }
 
 pub(crate) fn take_flag(slot: &mut bool, value: FieldValue<'_>) -> Result<(), Stop>
-    ensures { Takes result slot.new (flag_kind.taken slot.old (seen_value value.entry)) }
+    ensures { TakesField result slot.new (flag_kind.taken slot.old (seen_value value.entry)) }
 {
     if let FieldValue::Varint(n) = value {
         *slot = n != 0;

@@ -2,7 +2,7 @@ ghost use Rattle.std.specs.Prelude.{◌≡◌, ◌<◌, ◌^◌, ◌++◌, OnOk}
 ghost use Rattle.vs_wire.specs.Fields.{sized};
 ghost use Rattle.vs_wire.specs.Seen.{refusal, seen_value};
 ghost use Rattle.vs_wire.specs.declared.refusal.Flaw.{Flaw};
-ghost use Rattle.vs_proto.specs.Answers.{Takes};
+ghost use Rattle.vs_proto.specs.Answers.{TakesField};
 ghost use Rattle.vs_proto.specs.Kinds.{
   if_packed,
   packed_bytes,
@@ -39,7 +39,7 @@ fn signed_of(n: u64) -> i64
 
 /// Takes one more number, or a packed list of them.
 pub(crate) fn take_sint64s(slot: &mut List<i64>, value: FieldValue<'_>) -> Result<(), Stop>
-    ensures { Takes result slot.new (packed_taken slot.old (seen_value value.entry)) }
+    ensures { TakesField result slot.new (packed_taken slot.old (seen_value value.entry)) }
 {
     match value {
         FieldValue::Bytes(bytes) => take_packed(slot, bytes),
@@ -53,7 +53,7 @@ pub(crate) fn take_sint64s(slot: &mut List<i64>, value: FieldValue<'_>) -> Resul
 
 /// Takes the numbers of a packed list. The place of a bad one is counted from the list's front.
 fn take_packed(slot: &mut List<i64>, bytes: &[u8]) -> Result<(), Stop>
-    ensures { Takes result slot.new (packed_taken slot.old (sized bytes.now)) }
+    ensures { TakesField result slot.new (packed_taken slot.old (sized bytes.now)) }
 {
     let mut at = 0;
     while at < bytes.len() {

@@ -1,5 +1,5 @@
 ghost use Rattle.std.specs.Prelude.{None};
-ghost use Rattle.vs_proto.specs.Answers.{Reads, ReadsInto};
+ghost use Rattle.vs_proto.specs.Answers.{ReadsMessage, ReadsInto};
 ghost use Rattle.vs_proto.specs.Shapes.{ended, read, read_into};
 
 use crate::message::Message;
@@ -43,7 +43,7 @@ fn end<M: Message>(message: &M) -> Result<(), ProtoRefusal>
 
 /// Reads a message.
 pub(crate) fn read_message<M: Message>(alloc: Global, bytes: &[u8]) -> Result<M, ProtoRefusal>
-    ensures { Reads result (read M.shape bytes.now) }
+    ensures { ReadsMessage result (read M.shape bytes.now) }
 {
     let mut message = M::empty(alloc);
     read_on(alloc, &mut message, bytes)?;

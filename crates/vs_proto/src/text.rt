@@ -1,7 +1,7 @@
 ghost use Rattle.std.specs.Prelude.{◌≡◌, ◌<◌, ◌^◌, ◌++◌, OnOk, map, true};
 ghost use Rattle.vs_wire.specs.Fields.{sized};
 ghost use Rattle.vs_wire.specs.Seen.{seen_value};
-ghost use Rattle.vs_proto.specs.Answers.{IsString, Takes};
+ghost use Rattle.vs_proto.specs.Answers.{IsString, TakesField};
 ghost use Rattle.vs_proto.specs.Kinds.{if_any, take_bytes, take_text, take_texts};
 ghost use Rattle.vs_proto.specs.Shapes.{values_bytes};
 
@@ -15,7 +15,7 @@ use vs_wire::FieldValue;
 
 /// Takes a string. Other wire types are passed over, here and below.
 pub(crate) fn take_string(alloc: Global, slot: &mut Text, value: FieldValue<'_>) -> Result<(), Stop>
-    ensures { Takes result slot.new (take_text true slot.old (seen_value value.entry)) }
+    ensures { TakesField result slot.new (take_text true slot.old (seen_value value.entry)) }
 {
     if let FieldValue::Bytes(bytes) = value {
         *slot = string_of(alloc, bytes)?;
@@ -29,7 +29,7 @@ pub(crate) fn take_strings(
     slot: &mut List<Text>,
     value: FieldValue<'_>,
 ) -> Result<(), Stop>
-    ensures { Takes result slot.new (take_texts true slot.old (seen_value value.entry)) }
+    ensures { TakesField result slot.new (take_texts true slot.old (seen_value value.entry)) }
 {
     if let FieldValue::Bytes(bytes) = value {
         slot.push(string_of(alloc, bytes)?)?;
@@ -49,7 +49,7 @@ fn string_of(alloc: Global, bytes: &[u8]) -> Result<Text, Stop>
 
 /// Takes bytes.
 pub(crate) fn take_blob(alloc: Global, slot: &mut Text, value: FieldValue<'_>) -> Result<(), Stop>
-    ensures { Takes result slot.new (take_bytes slot.old (seen_value value.entry)) }
+    ensures { TakesField result slot.new (take_bytes slot.old (seen_value value.entry)) }
 {
     if let FieldValue::Bytes(bytes) = value {
         *slot = Text::from_bytes(alloc, bytes)?;

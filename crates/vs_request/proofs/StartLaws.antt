@@ -6,7 +6,7 @@ use Rattle.std.proofs.lemmas.Bool.{cases_Bool}
 use Rattle.std.proofs.lemmas.Slice.Eq.{bytes_eq-Decides}
 use Rattle.vs_gtid.specs.declared.refusal.GtidRefusal.{GtidRefusal}
 use Rattle.vs_gtid.specs.Positions.{Position}
-use Rattle.vs_gtid.specs.Readings.{Reads, read}
+use Rattle.vs_gtid.specs.Readings.{ReadsSet, read}
 use Rattle.vs_gtid.proofs.ReadingLemmas.{only, reads}
 use Rattle.vs_request.specs.declared.request.StartAt.{StartAt}
 use Rattle.vs_request.specs.declared.request.StartAt.TheVariants.{Fresh, Current, At}
@@ -47,7 +47,7 @@ abbrev pub SaysStart : List ℕ → Result StartAt ℕ → Type 0
 SaysStart text (Ok start) = StartsAs text start
 SaysStart text (Err at) = IsRefusedAt text at
 
-set-holds : (text : List ℕ) → NamesSet text → (r : Result Position GtidRefusal) → Reads text r → SaysStart text (of_set text r)
+set-holds : (text : List ℕ) → NamesSet text → (r : Result Position GtidRefusal) → ReadsSet text r → SaysStart text (of_set text r)
 set-holds text names (Ok set) h = (names, h)
 set-holds text names (Err refusal) h = (names, refusal, h, refl)
 

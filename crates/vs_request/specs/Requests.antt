@@ -1,7 +1,7 @@
 -- What the bytes of a message ask for, or the first thing that is wrong with them: they are no message; it has no entry, or
 -- too many; an entry has a fault; there are too many rules.
 use Rattle.std.specs.Prelude.{All, ◌≡◌, ◌≤◌, ◌<◌, ℕ, true, false, List, [], length, map, Option, Some, None, Result, Ok, Err}
-use Rattle.vs_proto.specs.Answers.{Refuses}
+use Rattle.vs_proto.specs.Answers.{RefusesMessage}
 use Rattle.vs_proto.specs.Shapes.{read}
 use Rattle.vs_proto.specs.Tables.{request}
 use Rattle.vs_proto.specs.declared.refusal.ProtoRefusal.{ProtoRefusal}
@@ -69,7 +69,7 @@ IsFirstFault message fault = IsFaultIn (entries_in message.vgtid) fault
 -- ---- what bytes ask for
 
 -- The bytes are a message without a fault, and ask for this.
-pub record Reads (bytes : List ℕ) (asked : Request) : Type 0 where
+pub record ReadsRequest (bytes : List ℕ) (asked : Request) : Type 0 where
   pub message : VStreamRequest
   pub is_read : read (request true) bytes ≡ Ok message
   pub means : Means message asked
@@ -83,8 +83,8 @@ pub record HasFault (bytes : List ℕ) (fault : RequestRefusal) : Type 0 where
 -- why the bytes are no message
 abbrev pub IsNoMessage : List ℕ → ProtoRefusal → Type 0
 IsNoMessage bytes protos.Memory = ⊥
-IsNoMessage bytes (protos.BadMessage at why) = Refuses (protos.BadMessage at why) (read (request true) bytes)
-IsNoMessage bytes (protos.NotUtf8 at) = Refuses (protos.NotUtf8 at) (read (request true) bytes)
+IsNoMessage bytes (protos.BadMessage at why) = RefusesMessage (protos.BadMessage at why) (read (request true) bytes)
+IsNoMessage bytes (protos.NotUtf8 at) = RefusesMessage (protos.NotUtf8 at) (read (request true) bytes)
 
 -- This is the first thing that is wrong with the bytes.
 abbrev pub IsRefused : List ℕ → RequestRefusal → Type 0
@@ -93,5 +93,5 @@ IsRefused bytes fault = HasFault bytes fault
 
 -- what the bytes say: a request, or their first fault
 abbrev pub Says : List ℕ → Result Request RequestRefusal → Type 0
-Says bytes (Ok asked) = Reads bytes asked
+Says bytes (Ok asked) = ReadsRequest bytes asked
 Says bytes (Err fault) = IsRefused bytes fault

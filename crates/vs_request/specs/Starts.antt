@@ -2,7 +2,7 @@
 use Rattle.std.specs.Prelude.{◌≡◌, ◌≢◌, ℕ, List, [], length, codes, Ok, Err}
 use Rattle.vs_gtid.specs.declared.refusal.GtidRefusal.{GtidRefusal}
 use Rattle.vs_gtid.specs.declared.refusal.GtidRefusal.TheVariants.{BadText, ZeroNumber, EmptyInterval, BadBlock, TooManyIntervals, Memory}
-use Rattle.vs_gtid.specs.Readings.{Reads as ReadsSet}
+use Rattle.vs_gtid.specs.Readings.{ReadsSet}
 use Rattle.vs_request.specs.declared.request.StartAt.{StartAt}
 use Rattle.vs_request.specs.declared.request.StartAt.TheVariants.{Fresh, Current, At}
 

@@ -13,6 +13,6 @@ abbrev pub Fails : {B : Type 0} → Fault → Option B → Type 0
 Fails Wrong meant = meant ≡ None
 Fails Memory meant = Unit {0}
 
-abbrev pub Gives : {A B : Type 0} → (A → B) → Result A Fault → Option B → Type 0
-Gives view (Ok x) meant = meant ≡ Some (view x)
-Gives view (Err fault) meant = Fails fault meant
+abbrev pub GivesSeen : {A B : Type 0} → (A → B) → Result A Fault → Option B → Type 0
+GivesSeen view (Ok x) meant = meant ≡ Some (view x)
+GivesSeen view (Err fault) meant = Fails fault meant

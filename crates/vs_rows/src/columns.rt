@@ -9,7 +9,7 @@ ghost use Rattle.vs_rows.specs.Columns.{
   typed_columns,
   wanted,
 };
-ghost use Rattle.vs_rows.specs.Reading.{Gives};
+ghost use Rattle.vs_rows.specs.Reading.{GivesSeen};
 
 use crate::fault::Fault;
 use crate::layout::cut;
@@ -48,7 +48,7 @@ pub(crate) fn read_columns(
     types: &[u8],
     metadata: &[u8],
 ) -> Result<List<TypedColumn>, Fault>
-    ensures { Gives (λ columns. columns) result (typed_columns types.now metadata.now) }
+    ensures { GivesSeen (λ columns. columns) result (typed_columns types.now metadata.now) }
 {
     let mut columns = Vec::with_capacity(alloc, types.len())?;
     let mut rest = metadata;
@@ -66,7 +66,7 @@ pub(crate) fn read_columns(
 /// The type with its piece of the metadata.
 #[tactic(auto, unfolding(crate::specs::Columns::typed_column))]
 fn read_column(code: u8, metadata: &[u8]) -> Result<(TypedColumn, &[u8]), Fault>
-    ensures { Gives (λ r. (r.0, r.1.now)) result (typed_column code metadata.now) }
+    ensures { GivesSeen (λ r. (r.0, r.1.now)) result (typed_column code metadata.now) }
 {
     let Some(size) = meta_length(code) else {
         return Err(Fault::Wrong);
@@ -123,7 +123,7 @@ pub(crate) fn match_columns(
     wanted: &[WantedColumn],
     typed: &[TypedColumn],
 ) -> Result<List<RowColumn>, Fault>
-    ensures { Gives (λ columns. columns) result (row_columns wanted.now typed.now) }
+    ensures { GivesSeen (λ columns. columns) result (row_columns wanted.now typed.now) }
 {
     if wanted.len() != typed.len() {
         return Err(Fault::Wrong);

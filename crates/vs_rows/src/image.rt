@@ -3,7 +3,7 @@ ghost use Rattle.std.specs.Prelude.{◌≡◌, ◌⊎◌, ◌≤◌, ◌+◌, �
 ghost use Rattle.vs_rows.specs.Bits.{bit_bytes};
 ghost use Rattle.vs_rows.specs.Layouts.{images};
 ghost use Rattle.vs_rows.specs.Lent.{rows_lent};
-ghost use Rattle.vs_rows.specs.Reading.{Gives};
+ghost use Rattle.vs_rows.specs.Reading.{GivesSeen};
 ghost use Rattle.vs_rows.specs.Rows.{
   are_full,
   cell_at,
@@ -78,7 +78,7 @@ fn read_rows(
     table: &RowTable,
     rows: &[u8],
 ) -> Result<List<Change>, Fault>
-    ensures { Gives (λ changes. changes) result (changes_in kind table.now rows.now) }
+    ensures { GivesSeen (λ changes. changes) result (changes_in kind table.now rows.now) }
 {
     let mut changes = List::new(alloc);
     let mut rest = rows;
@@ -101,7 +101,7 @@ fn read_change<'a>(
     table: &RowTable,
     bytes: &'a [u8],
 ) -> Result<(Change, &'a [u8]), Fault>
-    ensures { Gives (λ r. (r.0, r.1.now)) result (change_at kind table.now bytes.now) }
+    ensures { GivesSeen (λ r. (r.0, r.1.now)) result (change_at kind table.now bytes.now) }
 {
     let columns = table.columns.as_slice();
     let (first, rest) = read_image(alloc, columns, bytes)?;
@@ -121,7 +121,7 @@ fn change(
     before: Option<Image>,
     after: Option<Image>,
 ) -> Result<Change, Fault>
-    ensures { Gives (λ c. c) result (Some (record { table = table.now.name; before = before; after = after })) }
+    ensures { GivesSeen (λ c. c) result (Some (record { table = table.now.name; before = before; after = after })) }
 {
     Ok(Change {
         table: table.name.copy(alloc)?,
@@ -137,7 +137,7 @@ fn read_image<'a>(
     columns: &[RowColumn],
     bytes: &'a [u8],
 ) -> Result<(Image, &'a [u8]), Fault>
-    ensures { Gives (λ r. (r.0, r.1.now)) result (image_at columns.now bytes.now) }
+    ensures { GivesSeen (λ r. (r.0, r.1.now)) result (image_at columns.now bytes.now) }
 {
     let Some((nulls, rest)) = cut(bytes, bit_bytes(columns.len())) else {
         return Err(Fault::Wrong);
@@ -153,7 +153,7 @@ fn read_cells<'a>(
     bytes: &'a [u8],
 ) -> Result<(Image, &'a [u8]), Fault>
     requires { length columns.now ≤ 8 * length nulls.now }
-    ensures { Gives (λ r. (r.0, r.1.now)) result (cells_at 0 nulls.now columns.now bytes.now) }
+    ensures { GivesSeen (λ r. (r.0, r.1.now)) result (cells_at 0 nulls.now columns.now bytes.now) }
 {
     let mut image = Image::new(alloc);
     let mut rest = bytes;
@@ -173,7 +173,7 @@ fn read_cell<'a>(
     column: &RowColumn,
     bytes: &'a [u8],
 ) -> Result<(Cell, &'a [u8]), Fault>
-    ensures { Gives (λ r. (r.0, r.1.now)) result (cell_at is_null column.now bytes.now) }
+    ensures { GivesSeen (λ r. (r.0, r.1.now)) result (cell_at is_null column.now bytes.now) }
 {
     if is_null {
         return Ok((null_cell(alloc, column), bytes));

@@ -5,7 +5,7 @@ use Rattle.vs_base.specs.declared.table.Table.{Table}
 use Rattle.vs_schema.specs.declared.schema.Schema.{Schema}
 use Rattle.vs_schema.specs.declared.refusal.SchemaRefusal.{SchemaRefusal}
 use Rattle.vs_schema.specs.declared.refusal.SchemaRefusal.TheVariants.{BadSchema}
-use Rattle.vs_schema.specs.Laws.{Begins, IsFirstFault}
+use Rattle.vs_schema.specs.Laws.{BeginsSchema, IsFirstFault}
 use Rattle.vs_schema.specs.Lines.{lines_of}
 use Rattle.vs_schema.specs.Rules.{Draft, by_line, by_lines, closed, finished, schema_of, start}
 
@@ -13,9 +13,9 @@ use Rattle.vs_schema.specs.Rules.{Draft, by_line, by_lines, closed, finished, sc
 record Fails (d : Draft) (lines : List (List ℕ)) (n : ℕ) : Type 0 where
   within : n ≤ length lines
   after : Draft
-  before : Begins d (take n lines) after
-  there : suc n ≤ length lines → (next : Draft) → Begins d (take (suc n) lines) next → ⊥
-  behind : (next : Draft) (tables : List Table) → Begins d lines next → closed next.tables next.current ≡ Some tables → ⊥
+  before : BeginsSchema d (take n lines) after
+  there : suc n ≤ length lines → (next : Draft) → BeginsSchema d (take (suc n) lines) next → ⊥
+  behind : (next : Draft) (tables : List Table) → BeginsSchema d lines next → closed next.tables next.current ≡ Some tables → ⊥
 
 in_front : (d next : Draft) (line : List ℕ) (lines : List (List ℕ)) (n : ℕ) → by_line d line ≡ Some next → Fails next lines n → Fails d (line ∷ lines) (suc n)
 in_front d next line lines n taken f = record {
@@ -26,10 +26,10 @@ in_front d next line lines n taken f = record {
   behind = λ last tables b c. f.behind last tables (moved lines last b) c;
 }
   where
-    moved : (more : List (List ℕ)) (last : Draft) → Begins d (line ∷ more) last → Begins next more last
+    moved : (more : List (List ℕ)) (last : Draft) → BeginsSchema d (line ∷ more) last → BeginsSchema next more last
     moved more last b =
         let same : b.0 ≡ next = cc in
-        subst (λ z. Begins z more last) same b.2
+        subst (λ z. BeginsSchema z more last) same b.2
 
 stuck : (d : Draft) (line : List ℕ) (lines : List (List ℕ)) → by_line d line ≡ None → Fails d (line ∷ lines) 0
 stuck d line lines refused = record {
@@ -75,8 +75,8 @@ first_fault text line h =
     let next : line ≡ suc f.0 = omega (arith, f.1) in
     record {
       from_one = omega (arith, f.1);
-      before = (f.2.after, subst (λ z. Begins start (take z (lines_of text)) f.2.after) (sym one) f.2.before);
+      before = (f.2.after, subst (λ z. BeginsSchema start (take z (lines_of text)) f.2.after) (sym one) f.2.before);
       within = omega (arith, f.1, f.2.within);
-      there = λ short b. f.2.there (omega (arith, next)) b.0 (subst (λ z. Begins start (take z (lines_of text)) b.0) next b.1);
+      there = λ short b. f.2.there (omega (arith, next)) b.0 (subst (λ z. BeginsSchema start (take z (lines_of text)) b.0) next b.1);
       behind = λ whole. f.2.behind whole.after whole.tables whole.begins whole.closed;
     }

@@ -48,17 +48,17 @@ pub record IsLawful (schema : Schema) : Type 0 where
   pub whole : AllByRecursion IsWhole schema.tables
 
 -- lines with which a schema text may begin, and what they say
-abbrev pub Begins : Draft → List (List ℕ) → Draft → Type 0
-Begins d [] after = d ≡ after
-Begins d (line ∷ lines) after = (next : Draft) × (by_line d line ≡ Some next) × Begins next lines after
+abbrev pub BeginsSchema : Draft → List (List ℕ) → Draft → Type 0
+BeginsSchema d [] after = d ≡ after
+BeginsSchema d (line ∷ lines) after = (next : Draft) × (by_line d line ≡ Some next) × BeginsSchema next lines after
 
 abbrev pub IsBeginning : List (List ℕ) → Type 0
-IsBeginning lines = (after : Draft) × Begins start lines after
+IsBeginning lines = (after : Draft) × BeginsSchema start lines after
 
 -- a whole schema text: its lines may stand so, and its last table has a column
 pub record IsText (lines : List (List ℕ)) : Type 0 where
   pub after : Draft
-  pub begins : Begins start lines after
+  pub begins : BeginsSchema start lines after
   pub tables : List Table
   pub closed : closed after.tables after.current ≡ Some tables
 

@@ -15,7 +15,7 @@ Holds (Err Wrong) now meant = meant ≡ None
 Holds (Err Memory) now meant = Unit {0}
 
 -- the same of a value that is given
-abbrev pub Gives : {A : Type 0} → Result A LineFault → Option A → Type 0
-Gives (Ok x) meant = meant ≡ Some x
-Gives (Err Wrong) meant = meant ≡ None
-Gives (Err Memory) meant = Unit {0}
+abbrev pub GivesLine : {A : Type 0} → Result A LineFault → Option A → Type 0
+GivesLine (Ok x) meant = meant ≡ Some x
+GivesLine (Err Wrong) meant = meant ≡ None
+GivesLine (Err Memory) meant = Unit {0}

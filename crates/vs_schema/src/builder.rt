@@ -1,6 +1,6 @@
 ghost use Rattle.std.specs.Prelude.{◌≡◌, ◌&&◌, None, Some, if◌then◌else◌, not};
 ghost use Rattle.vs_schema.specs.Lines.{sole, words_of};
-ghost use Rattle.vs_schema.specs.Reading.{Gives, Holds, draft_of};
+ghost use Rattle.vs_schema.specs.Reading.{GivesLine, Holds, draft_of};
 ghost use Rattle.vs_schema.specs.Rules.{
   by_line,
   by_name,
@@ -154,7 +154,7 @@ impl Builder {
 
     /// The name of a table, where none that was told has it.
     fn new_name(&self, alloc: Global, name: &[u8]) -> Result<Text, LineFault>
-        ensures { Gives result (if is_name name.now && not (is_taken (draft_of self.now) name.now) then Some name.now else None) }
+        ensures { GivesLine result (if is_name name.now && not (is_taken (draft_of self.now) name.now) then Some name.now else None) }
     {
         if !is_name(name) {
             return Err(LineFault::Wrong);

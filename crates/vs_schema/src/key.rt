@@ -1,7 +1,7 @@
 ghost use Rattle.std.specs.Prelude.{◌≡◌, ◌==◌, []};
 ghost use Rattle.std.specs.List.{list_any, position};
 ghost use Rattle.vs_schema.specs.Lines.{words_of};
-ghost use Rattle.vs_schema.specs.Reading.{Gives};
+ghost use Rattle.vs_schema.specs.Reading.{GivesLine};
 ghost use Rattle.vs_schema.specs.Rules.{key_place, key_with, may_be_key, names_column};
 
 use crate::cut::{cut_word, is_same};
@@ -12,7 +12,7 @@ use vs_base::{Column, ColumnKind, List};
 /// The places of the columns with these names, as the key of a table.
 #[tactic(auto, unfolding(crate::specs::Rules::key_with))]
 pub fn read_key(alloc: Global, columns: &[Column], names: &[u8]) -> Result<List<usize>, LineFault>
-    ensures { Gives result (key_with columns.now [] (words_of names.now)) }
+    ensures { GivesLine result (key_with columns.now [] (words_of names.now)) }
 {
     let mut key = List::new(alloc);
     let mut rest = names;
@@ -33,7 +33,7 @@ pub fn read_key(alloc: Global, columns: &[Column], names: &[u8]) -> Result<List<
 /// The place of the column with this name, where it may follow such a key.
 #[tactic(auto, unfolding(crate::specs::Rules::key_place))]
 fn place_in_key(columns: &[Column], key: &[usize], name: &[u8]) -> Result<usize, LineFault>
-    ensures { Gives result (key_place columns.now key.now name.now) }
+    ensures { GivesLine result (key_place columns.now key.now name.now) }
 {
     let Some(place) = place_of(columns, name) else {
         return Err(LineFault::Wrong);

@@ -5,7 +5,7 @@ use Rattle.std.specs.Option.{option_and_then}
 use Rattle.std.proofs.lemmas.Bool.{and_parts}
 use Rattle.vs_select.specs.Grammar.{after, done, ended, finished, run, select_of, step}
 use Rattle.vs_select.specs.Parts.{behind, is_blank, left_at, next_in, next_part, part_at, parts_from, placed, with_part}
-use Rattle.vs_select.specs.Productions.{AreSelect, BeginsWith, CanGoOn, IsMissedAt, IsNoneFrom, IsUnclosed, SelectsAreProductions}
+use Rattle.vs_select.specs.Productions.{AreSelect, BeginsWithParts, CanGoOn, IsMissedAt, IsNoneFrom, IsUnclosed, SelectsAreProductions}
 use Rattle.vs_select.specs.declared.part.Part.{Part}
 use Rattle.vs_select.specs.declared.part.Part.TheVariants as part
 use Rattle.vs_select.specs.declared.state.State.{State}
@@ -60,7 +60,7 @@ goes_on_by : (m size at : ℕ) (text rest : List ℕ) (ps : List Part) (u : Stat
 goes_on_by m size at text rest ps u None later h = absurd (cc)
 goes_on_by m size at text rest ps u (Some v) later h = later v h
 
-runs_front : (ps : List Part) (n size : ℕ) (text rest : List ℕ) (st u : State) → length text ≤ n → BeginsWith text ps rest → walk st ps ≡ Some u → GoesTo st n size text u rest
+runs_front : (ps : List Part) (n size : ℕ) (text rest : List ℕ) (st u : State) → length text ≤ n → BeginsWithParts text ps rest → walk st ps ≡ Some u → GoesTo st n size text u rest
 runs_front [] n size text rest st u few b h =
     let same : st ≡ u = cc in
     let long : length text ≡ length (b.0 ++ rest) = ap length b.1 in
@@ -110,14 +110,14 @@ place_there c cs size at h unclosed closed =
     (unclosed_or_not (part_at c cs).0)
 
 -- what fits there could go on
-fitting : (before : List Part) (u v : State) (c : ℕ) (cs : List ℕ) → walk Begin before ≡ Some u → ((p : Part) (rest : List ℕ) → BeginsWith (c ∷ cs) (p ∷ []) rest → CanGoOn (before ++ p ∷ []) → ⊥) → step u (part_at c cs).0 ≡ Some v → ⊥
+fitting : (before : List Part) (u v : State) (c : ℕ) (cs : List ℕ) → walk Begin before ≡ Some u → ((p : Part) (rest : List ℕ) → BeginsWithParts (c ∷ cs) (p ∷ []) rest → CanGoOn (before ++ p ∷ []) → ⊥) → step u (part_at c cs).0 ≡ Some v → ⊥
 fitting before u v c cs walked stops fits = stops (part_at c cs).0 (part_at c cs).1 (begins_at_once c cs (fits_stands u v (part_at c cs).0 fits)) (can_go (before ++ (part_at c cs).0 ∷ []) v (one_step_more before (part_at c cs).0 Begin u v walked fits))
 
 no_step : (o : Option State) → ((v : State) → o ≡ Some v → ⊥) → o ≡ None
 no_step None h = refl
 no_step (Some v) h = absurd (h v refl)
 
-refused_at : (text : List ℕ) (at : ℕ) (before : List Part) (rest : List ℕ) → BeginsWith text before rest → ((c : ℕ) (cs : List ℕ) → rest ≡ c ∷ cs → is_blank c ≡ false) → CanGoOn before → (rest ≡ [] → (s : Select) → AreSelect before s → ⊥) → ((p : Part) (behind : List ℕ) → BeginsWith rest (p ∷ []) behind → CanGoOn (before ++ p ∷ []) → ⊥) → IsMissedAt text rest at → select_of text ≡ Err at
+refused_at : (text : List ℕ) (at : ℕ) (before : List Part) (rest : List ℕ) → BeginsWithParts text before rest → ((c : ℕ) (cs : List ℕ) → rest ≡ c ∷ cs → is_blank c ≡ false) → CanGoOn before → (rest ≡ [] → (s : Select) → AreSelect before s → ⊥) → ((p : Part) (behind : List ℕ) → BeginsWithParts rest (p ∷ []) behind → CanGoOn (before ++ p ∷ []) → ⊥) → IsMissedAt text rest at → select_of text ≡ Err at
 refused_at text at before [] begins no_blank goes_on none stops place =
     let r = reached before goes_on.0 Begin goes_on.1 (selects_accepted (before ++ goes_on.0) goes_on.1 goes_on.2) in
     let g = runs_front before (length text) (length text) text [] Begin r.0 (omega arith) begins r.1 in

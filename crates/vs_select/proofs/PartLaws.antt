@@ -5,7 +5,7 @@ use Rattle.std.specs.List.{fold, list_all, take_while}
 use Rattle.std.proofs.lemmas.Bool.{and_parts, and_from, eqb-true, leb-true, le-leb, lt-ltb, or_from, or_parts}
 use Rattle.vs_base.specs.Numbers.{digits_value, is_digit, small_value}
 use Rattle.vs_select.specs.Parts.{behind, closed, is_blank, is_word_byte, number_by, number_of_run, part_at, run_at, sign_at, sign_by, up_to_backquote}
-use Rattle.vs_select.specs.Productions.{AreDigitsOf, EndsAt, IsSign, IsWord, Spells, in_quotes, number_text}
+use Rattle.vs_select.specs.Productions.{AreDigitsOf, PartEndsAt, IsSign, IsWord, Spells, in_quotes, number_text}
 use Rattle.vs_select.specs.declared.part.Part.{Part}
 use Rattle.vs_select.specs.declared.part.Part.TheVariants as part
 use Rattle.vs_select.specs.declared.select.Comparison.{Comparison}
@@ -67,7 +67,7 @@ number_cut negative whole text e = λ stands.
     let rest : List ℕ = behind is_word_byte text in
     let n = number_is negative run stands in
     let S : Part → Type 0 = λ p. Spells p (number_text negative run) in
-    let E : Part → Type 0 = λ p. EndsAt p rest in (
+    let E : Part → Type 0 = λ p. PartEndsAt p rest in (
       number_text negative run,
       e ∙ (ap (number_text negative) (front_and_rest is_word_byte text) ∙ number_front negative run rest),
       subst S (sym n.1) (run, refl, n.2),
@@ -119,7 +119,7 @@ at_run c cs e =
 same_cut : (make : List ℕ → Part) (text front rest : List ℕ) → (take_while is_word_byte text ≡ front) × (behind is_word_byte text ≡ rest) → run_at make text ≡ (make front, rest)
 same_cut make text front rest h = ap (λ r. (make r, behind is_word_byte text)) h.0 ∙ ap (λ r. (make front, r)) h.1
 
-word_all : (w rest : List ℕ) → IsWord w → EndsAt (part.Word w) rest → Begins (part.Word w) w rest
+word_all : (w rest : List ℕ) → IsWord w → PartEndsAt (part.Word w) rest → Begins (part.Word w) w rest
 word_all [] rest h ends = absurd h
 word_all (c ∷ cs) rest h ends =
     let parts = and_parts (is_word_byte c) (list_all is_word_byte cs) h.1 in (
@@ -136,7 +136,7 @@ digits_are_word (d ∷ ds) h =
     let parts = and_parts (is_digit d) (list_all is_digit ds) h in
     and_from (is_word_byte d) (list_all is_word_byte ds) (digit-is-word d parts.0) (digits_are_word ds parts.1)
 
-negative_all : (size : ℕ) (ds rest : List ℕ) → AreDigitsOf size ds → EndsAt (part.Number true size) rest → Begins (part.Number true size) (0x2D ∷ ds) rest
+negative_all : (size : ℕ) (ds rest : List ℕ) → AreDigitsOf size ds → PartEndsAt (part.Number true size) rest → Begins (part.Number true size) (0x2D ∷ ds) rest
 negative_all size ds rest h ends = (
   0x2D,
   ds ++ rest,
@@ -145,7 +145,7 @@ negative_all size ds rest h ends = (
   same_cut (number_of_run true) (ds ++ rest) ds rest (one_front is_word_byte ds rest (digits_are_word ds h.0) (number_stops true size rest ends)) ∙ ap (λ p. (p, rest)) (number_all true size ds h),
 )
 
-positive_all : (size : ℕ) (ds rest : List ℕ) → AreDigitsOf size ds → EndsAt (part.Number false size) rest → Begins (part.Number false size) ds rest
+positive_all : (size : ℕ) (ds rest : List ℕ) → AreDigitsOf size ds → PartEndsAt (part.Number false size) rest → Begins (part.Number false size) ds rest
 positive_all size [] rest h ends = absurd (let some = h.1 in omega arith)
 positive_all size (c ∷ cs) rest h ends =
     let parts = and_parts (is_digit c) (list_all is_digit cs) h.0 in
@@ -157,17 +157,17 @@ positive_all size (c ∷ cs) rest h ends =
       at_run c (cs ++ rest) e ∙ (yes (is_digit c) _ _ parts.0 ∙ (same_cut (number_of_run false) (c ∷ (cs ++ rest)) (c ∷ cs) rest (one_front is_word_byte (c ∷ cs) rest (digits_are_word (c ∷ cs) h.0) (number_stops false size rest ends)) ∙ ap (λ p. (p, rest)) (number_all false size (c ∷ cs) h))),
     )
 
-number_begins : (negative : Bool) (size : ℕ) (ds rest : List ℕ) → AreDigitsOf size ds → EndsAt (part.Number negative size) rest → Begins (part.Number negative size) (number_text negative ds) rest
+number_begins : (negative : Bool) (size : ℕ) (ds rest : List ℕ) → AreDigitsOf size ds → PartEndsAt (part.Number negative size) rest → Begins (part.Number negative size) (number_text negative ds) rest
 number_begins true size ds rest h ends = negative_all size ds rest h ends
 number_begins false size ds rest h ends = positive_all size ds rest h ends
 
-less_at : (rest : List ℕ) → EndsAt (part.Sign Less) rest → part_at 0x3C rest ≡ (part.Sign Less, rest)
+less_at : (rest : List ℕ) → PartEndsAt (part.Sign Less) rest → part_at 0x3C rest ≡ (part.Sign Less, rest)
 less_at [] h = refl
 less_at (d ∷ ds) h =
     let parts = or_parts (d == 0x3D) (d == 0x3E) h in
     ap (λ o. sign_by o 0x3C d ds) (no (d == 0x3E) _ _ parts.1 ∙ no (d == 0x3D) _ _ parts.0)
 
-greater_at : (rest : List ℕ) → EndsAt (part.Sign Greater) rest → part_at 0x3E rest ≡ (part.Sign Greater, rest)
+greater_at : (rest : List ℕ) → PartEndsAt (part.Sign Greater) rest → part_at 0x3E rest ≡ (part.Sign Greater, rest)
 greater_at [] h = refl
 greater_at (d ∷ ds) h = ap (λ o. sign_by o 0x3E d ds) (no (d == 0x3D) _ _ h)
 
@@ -175,7 +175,7 @@ equal_at : (rest : List ℕ) → part_at 0x3D rest ≡ (part.Sign Equal, rest)
 equal_at [] = refl
 equal_at (d ∷ ds) = refl
 
-sign_all : (by : Comparison) (text rest : List ℕ) → IsSign by text → EndsAt (part.Sign by) rest → Begins (part.Sign by) text rest
+sign_all : (by : Comparison) (text rest : List ℕ) → IsSign by text → PartEndsAt (part.Sign by) rest → Begins (part.Sign by) text rest
 sign_all Equal text rest h ends = begins_as (part.Sign Equal) text _ rest h (0x3D, rest, refl, refl, equal_at rest)
 sign_all NotEqual text rest (inl h) ends = begins_as (part.Sign NotEqual) text _ rest h (0x21, 0x3D ∷ rest, refl, refl, refl)
 sign_all NotEqual text rest (inr h) ends = begins_as (part.Sign NotEqual) text _ rest h (0x3C, 0x3E ∷ rest, refl, refl, refl)
@@ -185,7 +185,7 @@ sign_all Greater text rest h ends = begins_as (part.Sign Greater) text _ rest h 
 sign_all AtLeast text rest h ends = begins_as (part.Sign AtLeast) text _ rest h (0x3E, 0x3D ∷ rest, refl, refl, refl)
 
 -- a part that is spelled at a place is the one that stands there
-pub part_all : (p : Part) (spelled rest : List ℕ) → Spells p spelled → EndsAt p rest → Begins p spelled rest
+pub part_all : (p : Part) (spelled rest : List ℕ) → Spells p spelled → PartEndsAt p rest → Begins p spelled rest
 part_all (part.Word w) spelled rest h ends = begins_as (part.Word w) spelled w rest h.0 (word_all w rest h.1 ends)
 part_all (part.Quoted w) spelled rest h ends = begins_as (part.Quoted w) spelled _ rest h.0 (0x60, (w ++ 0x60 ∷ []) ++ rest, refl, refl, ap (λ t. closed part.Quoted (up_to_backquote t)) (append_assoc w (0x60 ∷ []) rest) ∙ ap (closed part.Quoted) (backquote_all w rest h.1))
 part_all (part.Number negative size) spelled rest h ends = begins_as (part.Number negative size) spelled _ rest h.1 (number_begins negative size h.0 rest h.2 ends)

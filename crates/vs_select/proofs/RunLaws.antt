@@ -4,7 +4,7 @@ use Rattle.std.specs.List.{take_while}
 use Rattle.std.specs.Option.{option_and_then}
 use Rattle.vs_select.specs.Grammar.{after, step, run}
 use Rattle.vs_select.specs.Parts.{Next, behind, is_blank, left_at, next_in, next_part, part_at, parts_from, placed, with_part}
-use Rattle.vs_select.specs.Productions.{AreBlanks, BeginsWith, EndsAt, Spells}
+use Rattle.vs_select.specs.Productions.{AreBlanks, BeginsWithParts, PartEndsAt, Spells}
 use Rattle.vs_select.specs.declared.part.Part.{Part}
 use Rattle.vs_select.specs.declared.part.Part.TheVariants as part
 use Rattle.vs_select.specs.declared.state.State.{State}
@@ -17,7 +17,7 @@ use Rattle.vs_select.proofs.PartLaws.{part_all, part_cut}
 -- ---- the next part
 
 -- a part that is spelled behind blanks is the next one
-pub next_at : (p : Part) (text blanks spelled rest : List ℕ) → text ≡ blanks ++ (spelled ++ rest) → AreBlanks blanks → Spells p spelled → EndsAt p rest → (left : ℕ) × (next_part text ≡ Some (left, (p, rest)))
+pub next_at : (p : Part) (text blanks spelled rest : List ℕ) → text ≡ blanks ++ (spelled ++ rest) → AreBlanks blanks → Spells p spelled → PartEndsAt p rest → (left : ℕ) × (next_part text ≡ Some (left, (p, rest)))
 next_at p text blanks spelled rest e all h ends =
     let b = part_all p spelled rest h ends in
     let first : behind is_blank text ≡ b.0 ∷ b.1 = ap (behind is_blank) (e ∙ ap (λ r. blanks ++ r) b.2) ∙ (one_front is_blank blanks (b.0 ∷ b.1) all b.3).1 in
@@ -25,7 +25,7 @@ next_at p text blanks spelled rest e all h ends =
 
 -- the text begins with blanks and the spelling of the part
 abbrev pub IsNext : List ℕ → Part → List ℕ → Type 0
-IsNext text p rest = (blanks spelled : List ℕ) × (text ≡ blanks ++ (spelled ++ rest)) × AreBlanks blanks × Spells p spelled × EndsAt p rest
+IsNext text p rest = (blanks spelled : List ℕ) × (text ≡ blanks ++ (spelled ++ rest)) × AreBlanks blanks × Spells p spelled × PartEndsAt p rest
 
 next_cut : (text rest : List ℕ) (n : Next) → behind is_blank text ≡ rest → next_in rest ≡ Some n → Stands n.1.0 → IsNext text n.1.0 n.1.1
 next_cut text [] n e h stands = absurd (cc)
@@ -38,14 +38,14 @@ next_cut text (c ∷ cs) n e h stands =
 pub next_is : (text : List ℕ) (n : Next) → next_part text ≡ Some n → Stands n.1.0 → IsNext text n.1.0 n.1.1
 next_is text n h stands = next_cut text (behind is_blank text) n refl h stands
 
-only_blanks : (text rest : List ℕ) → behind is_blank text ≡ rest → next_in rest ≡ None → BeginsWith text [] []
+only_blanks : (text rest : List ℕ) → behind is_blank text ≡ rest → next_in rest ≡ None → BeginsWithParts text [] []
 only_blanks text [] e h = (take_while is_blank text, front_and_rest is_blank text ∙ ap (λ r. take_while is_blank text ++ r) e, front_passes is_blank text)
 only_blanks text (c ∷ cs) e h = absurd (cc)
 
-pub none_left : (text : List ℕ) → next_part text ≡ None → BeginsWith text [] []
+pub none_left : (text : List ℕ) → next_part text ≡ None → BeginsWithParts text [] []
 none_left text h = only_blanks text (behind is_blank text) refl h
 
-pub left_none : (text : List ℕ) → BeginsWith text [] [] → next_part text ≡ None
+pub left_none : (text : List ℕ) → BeginsWithParts text [] [] → next_part text ≡ None
 left_none text b = ap next_in (ap (behind is_blank) b.1 ∙ (one_front is_blank b.0 [] b.2 tt).1)
 
 -- ---- what has no blank in front
@@ -97,7 +97,7 @@ fits_stands st u p h = tt
 -- ---- from a text to its parts
 
 abbrev pub Ran : State → List ℕ → State → Type 0
-Ran st text t = (ps : List Part) × BeginsWith text ps [] × (walk st ps ≡ Some t)
+Ran st text t = (ps : List Part) × BeginsWithParts text ps [] × (walk st ps ≡ Some t)
 
 ran_more : (st u t : State) (text : List ℕ) (n : Next) → next_part text ≡ Some n → step st n.1.0 ≡ Some u → Ran u n.1.1 t → Ran st text t
 ran_more st u t text n h fits later =
@@ -134,7 +134,7 @@ pub record Stopped (st : State) (text : List ℕ) (size at : ℕ) : Type 0 where
   pub rest : List ℕ
   pub state : State
   pub next : Next
-  pub begins : BeginsWith text before rest
+  pub begins : BeginsWithParts text before rest
   pub no_blank : behind is_blank rest ≡ rest
   pub walked : walk st before ≡ Some state
   pub next_is : next_part rest ≡ Some next
@@ -197,7 +197,7 @@ fit_run : (m size at : ℕ) (rest : List ℕ) (ps : List Part) (t : State) (o : 
 fit_run m size at rest ps t None later h = absurd (cc)
 fit_run m size at rest ps t (Some u) later h = later u h
 
-pub parts_to_runs : (ps : List Part) (n size : ℕ) (text : List ℕ) (st t : State) → length text ≤ n → BeginsWith text ps [] → walk st ps ≡ Some t → run st (parts_from n size text) ≡ Ok t
+pub parts_to_runs : (ps : List Part) (n size : ℕ) (text : List ℕ) (st t : State) → length text ≤ n → BeginsWithParts text ps [] → walk st ps ≡ Some t → run st (parts_from n size text) ≡ Ok t
 parts_to_runs [] n size text st t few b h =
     let same : st ≡ t = cc in
     no_part_run n size text st (left_none text b) ∙ ap Ok same

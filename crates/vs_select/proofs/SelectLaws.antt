@@ -7,7 +7,7 @@ use Rattle.std.proofs.lemmas.Bool.{eqb-true, or_cases, or_left, or_right}
 use Rattle.vs_base.specs.Numbers.{is_digit, small_value}
 use Rattle.vs_select.specs.Grammar.{done, ended, finished, run, select_of, step}
 use Rattle.vs_select.specs.Parts.{Next, behind, closed, is_blank, is_word_byte, left_at, long_sign, next_in, next_part, number_by, number_of_run, part_at, parts, placed, short_sign, sign_at, sign_by, sign_part, up_to_backquote, up_to_quote}
-use Rattle.vs_select.specs.Productions.{AreSelect, BeginsWith, CanGoOn, IsMissedAt, IsNoneFrom, IsSelect, IsUnclosed, Spells}
+use Rattle.vs_select.specs.Productions.{AreSelect, BeginsWithParts, CanGoOn, IsMissedAt, IsNoneFrom, IsSelect, IsUnclosed, Spells}
 use Rattle.vs_select.specs.declared.part.Part.{Part}
 use Rattle.vs_select.specs.declared.part.Part.TheVariants as part
 use Rattle.vs_select.specs.declared.state.State.{State}
@@ -62,7 +62,7 @@ can_go ps u h =
     let e = can_end u in
     (e.0, e.1, to_come (ps ++ e.0) Begin e.1 (accept-behind ps e.0 Begin u h ∙ e.2))
 
-none_at_end : (p : Part) (rest : List ℕ) → BeginsWith [] (p ∷ []) rest → ⊥
+none_at_end : (p : Part) (rest : List ℕ) → BeginsWithParts [] (p ∷ []) rest → ⊥
 none_at_end p rest b =
     let next = next_at p [] b.0 b.1 b.2 b.3 b.4 b.5 b.6 in
     let nothing : next_part [] ≡ None = refl in
@@ -139,7 +139,7 @@ pub same_part : (text rest : List ℕ) (p : Part) (left : ℕ) (n : Next) → ne
 same_part text rest p left n h k = let same : (left, (p, rest)) ≡ n = cc in ap (λ (m : Next). m.1.0) same
 
 -- a text that begins with a part at once
-pub begins_at_once : (c : ℕ) (cs : List ℕ) → Stands (part_at c cs).0 → BeginsWith (c ∷ cs) ((part_at c cs).0 ∷ []) (part_at c cs).1
+pub begins_at_once : (c : ℕ) (cs : List ℕ) → Stands (part_at c cs).0 → BeginsWithParts (c ∷ cs) ((part_at c cs).0 ∷ []) (part_at c cs).1
 begins_at_once c cs stands =
     let cut = part_cut c cs stands in
     ([], cut.0, (part_at c cs).1, cut.1, refl, cut.2, cut.3, ([], refl, refl))

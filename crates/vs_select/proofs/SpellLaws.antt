@@ -6,7 +6,7 @@ use Rattle.std.proofs.lemmas.Bool.{and_parts, and_from, eqb-true, not-true, or_f
 use Rattle.std.proofs.lemmas.List.{take-append-drop}
 use Rattle.std.proofs.lemmas.List.Sums.{take_while-cons}
 use Rattle.vs_select.specs.Parts.{behind, closed, is_word_byte, short_sign, sign_at, sign_by, sign_part, up_to_backquote, up_to_quote, with_byte}
-use Rattle.vs_select.specs.Productions.{EndsAt, Spells, goes_on_with, in_quotes, quoted_byte}
+use Rattle.vs_select.specs.Productions.{PartEndsAt, Spells, goes_on_with, in_quotes, quoted_byte}
 use Rattle.vs_select.specs.declared.part.Part.{Part}
 use Rattle.vs_select.specs.declared.part.Part.TheVariants as part
 use Rattle.vs_select.specs.declared.select.Comparison.{Comparison}
@@ -76,27 +76,27 @@ one_front p (x ∷ xs) rest all stops =
 
 -- ---- what may follow
 
-pub ends_word : (w rest : List ℕ) → StopsAt is_word_byte rest → EndsAt (part.Word w) rest
+pub ends_word : (w rest : List ℕ) → StopsAt is_word_byte rest → PartEndsAt (part.Word w) rest
 ends_word w [] h = tt
 ends_word w (c ∷ cs) h = h
 
-pub word_stops : (w rest : List ℕ) → EndsAt (part.Word w) rest → StopsAt is_word_byte rest
+pub word_stops : (w rest : List ℕ) → PartEndsAt (part.Word w) rest → StopsAt is_word_byte rest
 word_stops w [] h = tt
 word_stops w (c ∷ cs) h = h
 
-pub ends_number : (negative : Bool) (size : ℕ) (rest : List ℕ) → StopsAt is_word_byte rest → EndsAt (part.Number negative size) rest
+pub ends_number : (negative : Bool) (size : ℕ) (rest : List ℕ) → StopsAt is_word_byte rest → PartEndsAt (part.Number negative size) rest
 ends_number negative size [] h = tt
 ends_number negative size (c ∷ cs) h = h
 
-pub number_stops : (negative : Bool) (size : ℕ) (rest : List ℕ) → EndsAt (part.Number negative size) rest → StopsAt is_word_byte rest
+pub number_stops : (negative : Bool) (size : ℕ) (rest : List ℕ) → PartEndsAt (part.Number negative size) rest → StopsAt is_word_byte rest
 number_stops negative size [] h = tt
 number_stops negative size (c ∷ cs) h = h
 
-ends_bytes : (a b rest : List ℕ) → EndsAt (part.Bytes a) rest → EndsAt (part.Bytes b) rest
+ends_bytes : (a b rest : List ℕ) → PartEndsAt (part.Bytes a) rest → PartEndsAt (part.Bytes b) rest
 ends_bytes a b [] h = tt
 ends_bytes a b (c ∷ cs) h = h
 
-pub ends_freely : (p : Part) (rest : List ℕ) → ((c : ℕ) → goes_on_with p c ≡ false) → EndsAt p rest
+pub ends_freely : (p : Part) (rest : List ℕ) → ((c : ℕ) → goes_on_with p c ≡ false) → PartEndsAt p rest
 ends_freely p [] h = tt
 ends_freely p (c ∷ cs) h = h c
 
@@ -116,7 +116,7 @@ Stands p = Unit {0}
 
 -- the part that was cut from a text is spelled there, and ends there
 abbrev pub IsCut : List ℕ → Part × List ℕ → Type 0
-IsCut text cut = Stands cut.0 → (spelled : List ℕ) × (text ≡ spelled ++ cut.1) × Spells cut.0 spelled × EndsAt cut.0 cut.1
+IsCut text cut = Stands cut.0 → (spelled : List ℕ) × (text ≡ spelled ++ cut.1) × Spells cut.0 spelled × PartEndsAt cut.0 cut.1
 
 -- ---- names between backquotes
 
@@ -151,8 +151,8 @@ quoted_cut c cs (Some p) e h = λ stands. (
 
 abbrev pub QuoteIs : Bool → List ℕ → Option (List ℕ × List ℕ) → Type 0
 QuoteIs flag text None = Unit {0}
-QuoteIs true text (Some p) = (0x27 ∷ text ≡ in_quotes p.0 ++ p.1) × EndsAt (part.Bytes p.0) p.1
-QuoteIs false text (Some p) = (text ≡ in_quotes p.0 ++ p.1) × EndsAt (part.Bytes p.0) p.1
+QuoteIs true text (Some p) = (0x27 ∷ text ≡ in_quotes p.0 ++ p.1) × PartEndsAt (part.Bytes p.0) p.1
+QuoteIs false text (Some p) = (text ≡ in_quotes p.0 ++ p.1) × PartEndsAt (part.Bytes p.0) p.1
 
 two_quotes : (c : ℕ) (cs : List ℕ) (o : Option (List ℕ × List ℕ)) → (c == 0x27) ≡ true → QuoteIs false cs o → QuoteIs true (c ∷ cs) (with_byte 0x27 o)
 two_quotes c cs None e h = tt
@@ -172,11 +172,11 @@ quote_is false [] = tt
 quote_is true (c ∷ cs) = of_choice (QuoteIs true (c ∷ cs)) (c == 0x27) _ _ (λ e. two_quotes c cs _ e (quote_is false cs)) (λ e. (refl, e))
 quote_is false (c ∷ cs) = of_choice (QuoteIs false (c ∷ cs)) (c == 0x27) _ _ (λ e. first_quote c cs _ e (quote_is true cs)) (λ e. no_quote c cs _ e (quote_is false cs))
 
-closing_quote : (rest : List ℕ) → EndsAt (part.Bytes []) rest → up_to_quote true rest ≡ Some ([], rest)
+closing_quote : (rest : List ℕ) → PartEndsAt (part.Bytes []) rest → up_to_quote true rest ≡ Some ([], rest)
 closing_quote [] h = refl
 closing_quote (c ∷ cs) h = no (c == 0x27) _ _ h
 
-pub quote_all : (b rest : List ℕ) → EndsAt (part.Bytes b) rest → up_to_quote false (in_quotes b ++ rest) ≡ Some (b, rest)
+pub quote_all : (b rest : List ℕ) → PartEndsAt (part.Bytes b) rest → up_to_quote false (in_quotes b ++ rest) ≡ Some (b, rest)
 quote_all [] rest h = closing_quote rest h
 quote_all (c ∷ cs) rest h = go (c == 0x27) refl (quote_all cs rest (ends_bytes (c ∷ cs) cs rest h))
   where

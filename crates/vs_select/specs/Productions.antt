@@ -68,14 +68,14 @@ goes_on_with (part.Sign Less) c = c == 0x3D || c == 0x3E
 goes_on_with (part.Sign Greater) c = c == 0x3D
 goes_on_with p c = false
 
-abbrev pub EndsAt : Part → List ℕ → Type 0
-EndsAt p [] = Unit {0}
-EndsAt p (c ∷ cs) = goes_on_with p c ≡ false
+abbrev pub PartEndsAt : Part → List ℕ → Type 0
+PartEndsAt p [] = Unit {0}
+PartEndsAt p (c ∷ cs) = goes_on_with p c ≡ false
 
 -- the text begins with these parts, and this is left
-abbrev pub BeginsWith : List ℕ → List Part → List ℕ → Type 0
-BeginsWith text [] rest = (blanks : List ℕ) × (text ≡ blanks ++ rest) × AreBlanks blanks
-BeginsWith text (p ∷ ps) rest = (blanks spelled behind : List ℕ) × (text ≡ blanks ++ (spelled ++ behind)) × AreBlanks blanks × Spells p spelled × EndsAt p behind × BeginsWith behind ps rest
+abbrev pub BeginsWithParts : List ℕ → List Part → List ℕ → Type 0
+BeginsWithParts text [] rest = (blanks : List ℕ) × (text ≡ blanks ++ rest) × AreBlanks blanks
+BeginsWithParts text (p ∷ ps) rest = (blanks spelled behind : List ℕ) × (text ≡ blanks ++ (spelled ++ behind)) × AreBlanks blanks × Spells p spelled × PartEndsAt p behind × BeginsWithParts behind ps rest
 
 -- ---- which parts in a row are a select
 
@@ -128,7 +128,7 @@ pub record AreSelect (ps : List Part) (s : Select) : Type 0 where
 
 -- the text is this select
 abbrev pub IsSelect : List ℕ → Select → Type 0
-IsSelect text s = (ps : List Part) × BeginsWith text ps [] × AreSelect ps s
+IsSelect text s = (ps : List Part) × BeginsWithParts text ps [] × AreSelect ps s
 
 -- some select begins with these parts
 abbrev pub CanGoOn : List Part → Type 0
@@ -136,7 +136,7 @@ CanGoOn ps = (more : List Part) × (s : Select) × AreSelect (ps ++ more) s
 
 -- a quote or a backquote with which no part begins, since the text doesn't close it
 abbrev pub IsUnclosed : List ℕ → Type 0
-IsUnclosed rest = (c : ℕ) × (cs : List ℕ) × (rest ≡ c ∷ cs) × ((c == 0x27 || c == 0x60) ≡ true) × ((p : Part) (behind : List ℕ) → BeginsWith rest (p ∷ []) behind → ⊥)
+IsUnclosed rest = (c : ℕ) × (cs : List ℕ) × (rest ≡ c ∷ cs) × ((c == 0x27 || c == 0x60) ≡ true) × ((p : Part) (behind : List ℕ) → BeginsWithParts rest (p ∷ []) behind → ⊥)
 
 -- the place at which the text is missed of which this is left
 abbrev pub IsMissedAt : List ℕ → List ℕ → ℕ → Type 0
@@ -146,11 +146,11 @@ IsMissedAt text rest at = (IsUnclosed rest → at ≡ length text) × ((IsUnclos
 pub record IsNoneFrom (text : List ℕ) (at : ℕ) : Type 0 where
   pub before : List Part
   pub rest : List ℕ
-  pub begins : BeginsWith text before rest
+  pub begins : BeginsWithParts text before rest
   pub no_blank : (c : ℕ) (cs : List ℕ) → rest ≡ c ∷ cs → is_blank c ≡ false
   pub goes_on : CanGoOn before
   pub none : rest ≡ [] → (s : Select) → AreSelect before s → ⊥
-  pub stops : (p : Part) (behind : List ℕ) → BeginsWith rest (p ∷ []) behind → CanGoOn (before ++ p ∷ []) → ⊥
+  pub stops : (p : Part) (behind : List ℕ) → BeginsWithParts rest (p ∷ []) behind → CanGoOn (before ++ p ∷ []) → ⊥
   pub place : IsMissedAt text rest at
 
 -- a text is a select, or none from a place on, exactly as it is read

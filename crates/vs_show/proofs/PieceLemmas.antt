@@ -2,7 +2,7 @@
 use Rattle.std.proofs.Common.{◌≡◌, ℕ, ◌+◌, ◌∙◌, List, [], ◌++◌, Some, None, Ok, Err, refl, ap, sym, subst, inl, inr, append_assoc, append-nil}
 use Rattle.std.specs.Prelude.{true, false}
 use Rattle.std.specs.Int.{w32, to_be_bytes}
-use Rattle.vs_frame.specs.Frames.{Begins, Gives, Held, IsPart, IsTooLong, framed}
+use Rattle.vs_frame.specs.Frames.{BeginsWithFrame, GivesFrame, Held, IsPart, IsTooLong, framed}
 use Rattle.vs_frame.specs.declared.refusal.FrameRefusal.TheVariants.{FrameTooLong}
 use Rattle.vs_frame.specs.declared.refusal.FrameWhy.{FrameWhy}
 use Rattle.vs_frame.specs.declared.refusal.FrameWhy.TheVariants.{Message, TooLong}
@@ -15,7 +15,7 @@ use Rattle.vs_show.proofs.RecordingLemmas.{recorded-too_long, recorded-unreadabl
 
 -- ---- more bytes behind
 
-begins-more : (held m left rest : List ℕ) → Begins held m left → Begins (held ++ rest) m (left ++ rest)
+begins-more : (held m left rest : List ℕ) → BeginsWithFrame held m left → BeginsWithFrame (held ++ rest) m (left ++ rest)
 begins-more held m left rest is = (ap (λ b. b ++ rest) is.0 ∙ append_assoc (framed m) left rest, is.1)
 
 too_long-more : (held rest : List ℕ) (n : ℕ) → IsTooLong held n → IsTooLong (held ++ rest) n
@@ -23,15 +23,15 @@ too_long-more held rest n is = (is.0, is.1, (is.2.0 ++ rest, ap (λ b. b ++ rest
 
 -- ---- one frame
 
-pub next-whole : (n : ℕ) (held m left old new lent : List ℕ) → lent ≡ m → Begins held m left → PutsMessage n lent old (Ok tt) new → PutsNext n held old (Ok true) left new
+pub next-whole : (n : ℕ) (held m left old new lent : List ℕ) → lent ≡ m → BeginsWithFrame held m left → PutsMessage n lent old (Ok tt) new → PutsNext n held old (Ok true) left new
 next-whole n held m left old new lent same begins (f, is, put) =
-    let begun : Begins held lent left = subst (λ t. Begins held t left) (sym same) begins in
+    let begun : BeginsWithFrame held lent left = subst (λ t. BeginsWithFrame held t left) (sym same) begins in
     (frame_lines n f, put, λ rest. recorded-whole n (held ++ rest) lent (left ++ rest) f (begins-more held lent left rest begun) is)
 
-pub next-stop : (n : ℕ) (held m left old new lent : List ℕ) (e : Stop) → lent ≡ m → Begins held m left → PutsMessage n lent old (Err e) new → PutsNext n held old (Err e) left new
+pub next-stop : (n : ℕ) (held m left old new lent : List ℕ) (e : Stop) → lent ≡ m → BeginsWithFrame held m left → PutsMessage n lent old (Err e) new → PutsNext n held old (Err e) left new
 next-stop n held m left old new lent Memory same begins put = tt
 next-stop n held m left old new lent (Bad k why) same begins put =
-    let begun : Begins held lent left = subst (λ t. Begins held t left) (sym same) begins in (
+    let begun : BeginsWithFrame held lent left = subst (λ t. BeginsWithFrame held t left) (sym same) begins in (
       put.2,
       λ rest.
           recorded-unreadable n (held ++ rest) lent (left ++ rest) put.0 (begins-more held lent left rest begun) put.1
@@ -39,7 +39,7 @@ next-stop n held m left old new lent (Bad k why) same begins put =
           ∙ ap (λ w. record { lines = []; bad = Some (k, w) }) (sym put.4),
     )
 
-pub next-too_long : (n : ℕ) (old new : Held) (text : List ℕ) (k : ℕ) → old.refused ≡ None → Gives old (Err (FrameTooLong k)) new →
+pub next-too_long : (n : ℕ) (old new : Held) (text : List ℕ) (k : ℕ) → old.refused ≡ None → GivesFrame old (Err (FrameTooLong k)) new →
     PutsNext n old.bytes text (Err (Bad n TooLong)) new.bytes text
 next-too_long n old new text k fresh (stands, inl same) =
     absurd (let none : new.refused ≡ None = ap (λ h. h.refused) same ∙ fresh in cc)

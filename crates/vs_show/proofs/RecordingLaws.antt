@@ -6,7 +6,7 @@ use Rattle.std.proofs.lemmas.Bool.{ltb-true, ltb-false, eqb-true, eqb-false, con
 use Rattle.std.proofs.lemmas.List.Elements.{All-head, All-tail, All-cons, All-nil, All-drop}
 use Rattle.std.proofs.Math.Seq.{drop-append_seam}
 use Rattle.std.proofs.lemmas.List.{take-append-drop}
-use Rattle.vs_frame.specs.Frames.{Begins, IsGiven, IsPart, IsTooLong, IsWithinLimit, framed, frames_bytes}
+use Rattle.vs_frame.specs.Frames.{BeginsWithFrame, IsGiven, IsPart, IsTooLong, IsWithinLimit, framed, frames_bytes}
 use Rattle.vs_frame.proofs.FrameLemmas.{head_is}
 use Rattle.vs_frame.specs.declared.refusal.FrameWhy.{FrameWhy}
 use Rattle.vs_frame.specs.declared.refusal.FrameWhy.TheVariants.{Cut, TooLong, Message}
@@ -29,7 +29,7 @@ says-end n rest (Some Cut) ends = recorded-part n rest ends.1 ends.0
 says-end n rest (Some TooLong) ends = recorded-too_long n rest ends.0 ends.1
 says-end n rest (Some Message) ends = recorded-unreadable n rest ends.0 ends.1 ends.2 ends.3 ends.4
 
-first-begins : (bytes m rest : List ℕ) (ms : List (List ℕ)) → IsGiven bytes (m ∷ ms) rest → Begins bytes m (frames_bytes ms ++ rest)
+first-begins : (bytes m rest : List ℕ) (ms : List (List ℕ)) → IsGiven bytes (m ∷ ms) rest → BeginsWithFrame bytes m (frames_bytes ms ++ rest)
 first-begins bytes m rest ms is = (is.0 ∙ append_assoc (framed m) (frames_bytes ms) rest, All-head IsWithinLimit m ms is.1)
 
 says-all : (n : ℕ) (bytes rest : List ℕ) (ms : List (List ℕ)) (frames : List VStreamResponse) (why : Option FrameWhy) →
@@ -84,13 +84,13 @@ abbrev IsAtFront : List ℕ → Front → Type 0
 IsAtFront bytes nothing = bytes ≡ []
 IsAtFront bytes part = (0 < length bytes) × IsPart bytes
 IsAtFront bytes too_long = (n : ℕ) × IsTooLong bytes n
-IsAtFront bytes (whole m rest) = Begins bytes m rest
+IsAtFront bytes (whole m rest) = BeginsWithFrame bytes m rest
 
 none-left : (bytes : List ℕ) → length bytes ≡ 0 → bytes ≡ []
 none-left [] e = refl
 none-left (b ∷ bs) e = absurd (omega arith)
 
-begins-at : (bytes rest : List ℕ) (n : ℕ) → bytes ≡ to_be_bytes w32 n ++ rest → n ≤ 16777216 → n ≤ length rest → Begins bytes (take n rest) (drop n rest)
+begins-at : (bytes rest : List ℕ) (n : ℕ) → bytes ≡ to_be_bytes w32 n ++ rest → n ≤ 16777216 → n ≤ length rest → BeginsWithFrame bytes (take n rest) (drop n rest)
 begins-at bytes rest n e within long =
     let size : length (take n rest) ≡ n = length-take n rest ∙ omega arith in (
       e ∙ ap (λ r. to_be_bytes w32 n ++ r) (sym (take-append-drop n rest)) ∙ ap (λ k. to_be_bytes w32 k ++ (take n rest ++ drop n rest)) (sym size)
@@ -127,7 +127,7 @@ SomeRecording bytes = (frames : List VStreamResponse) × (why : Option FrameWhy)
 no-frames : (bytes : List ℕ) (why : Option FrameWhy) → EndsIn bytes why → SomeRecording bytes
 no-frames bytes why ends = ([], why, record { messages = []; rest = bytes; given = (refl, All-nil IsWithinLimit); read = tt; ends = ends })
 
-one-more : (bytes m rest : List ℕ) (f : VStreamResponse) → Begins bytes m rest → read (response true) m ≡ Ok f → SomeRecording rest → SomeRecording bytes
+one-more : (bytes m rest : List ℕ) (f : VStreamResponse) → BeginsWithFrame bytes m rest → read (response true) m ≡ Ok f → SomeRecording rest → SomeRecording bytes
 one-more bytes m rest f begins is (frames, why, all) = (
   f ∷ frames,
   why,
@@ -143,7 +143,7 @@ one-more bytes m rest f begins is (frames, why, all) = (
   },
 )
 
-rest-bytes : (bytes m rest : List ℕ) → Begins bytes m rest → AreBytes bytes → AreBytes rest
+rest-bytes : (bytes m rest : List ℕ) → BeginsWithFrame bytes m rest → AreBytes bytes → AreBytes rest
 rest-bytes bytes m rest begins are =
     subst AreBytes (ap (λ b. drop (length (framed m)) b) begins.0 ∙ drop-append_seam (framed m) rest) (All-drop (λ b. b < 256) (length (framed m)) bytes are)
 
@@ -151,7 +151,7 @@ recording-in : (k : ℕ) (bytes : List ℕ) → length bytes ≤ k → AreBytes 
 recording-in zero bytes few are = no-frames bytes None (none-left bytes (omega arith))
 recording-in (suc k) bytes few are = go (front bytes) (front-is bytes are) (λ rest less small. recording-in k rest (omega arith) small)
   where
-    read-front : (m rest : List ℕ) (r : Result VStreamResponse (ℕ × Fault)) → read (response true) m ≡ r → Begins bytes m rest → SomeRecording rest → SomeRecording bytes
+    read-front : (m rest : List ℕ) (r : Result VStreamResponse (ℕ × Fault)) → read (response true) m ≡ r → BeginsWithFrame bytes m rest → SomeRecording rest → SomeRecording bytes
     read-front m rest (Ok f) e begins more = one-more bytes m rest f begins e more
     read-front m rest (Err fault) e begins more = no-frames bytes (Some Message) (m, rest, fault, begins, e)
 

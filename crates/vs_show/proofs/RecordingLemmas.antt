@@ -5,7 +5,7 @@ use Rattle.std.specs.Int.{w32, to_be_bytes, from_be_bytes}
 use Rattle.std.proofs.lemmas.Bool.{lt-ltb, le-ltb, ne_eqb, eqb-false, cond-false, cond-true}
 use Rattle.std.proofs.lemmas.Nat.{from_be_bytes-to_be_bytes_4}
 use Rattle.std.proofs.Math.Seq.{take-append_seam, drop-append_seam}
-use Rattle.vs_frame.specs.Frames.{Begins, IsPart, IsTooLong}
+use Rattle.vs_frame.specs.Frames.{BeginsWithFrame, IsPart, IsTooLong}
 use Rattle.vs_frame.specs.declared.refusal.FrameWhy.TheVariants.{Cut, TooLong, Message}
 use Rattle.vs_proto.specs.Shapes.{read}
 use Rattle.vs_proto.specs.Tables.{response}
@@ -55,7 +55,7 @@ front-part bytes (inr h) some =
     ∙ within-limit h.0 h.1 within
     ∙ cond-true (nat_lt (length h.1) h.0) part (whole (take h.0 h.1) (drop h.0 h.1)) (lt-ltb (length h.1) h.0 less)
 
-pub front-begins : (bytes m rest : List ℕ) → Begins bytes m rest → front bytes ≡ whole m rest
+pub front-begins : (bytes m rest : List ℕ) → BeginsWithFrame bytes m rest → front bytes ≡ whole m rest
 front-begins bytes m rest is =
     let within = is.1 in
     let n : ℕ = length m in
@@ -131,12 +131,12 @@ recorded-part n bytes is some = stepped n bytes part (front-part bytes is some)
 pub recorded-too_long : (n : ℕ) (bytes : List ℕ) (k : ℕ) → IsTooLong bytes k → recorded_from n bytes ≡ bad_at n TooLong
 recorded-too_long n bytes k is = stepped n bytes too_long (front-too_long bytes k is)
 
-pub recorded-whole : (n : ℕ) (bytes m rest : List ℕ) (f : VStreamResponse) → Begins bytes m rest → read (response true) m ≡ Ok f →
+pub recorded-whole : (n : ℕ) (bytes m rest : List ℕ) (f : VStreamResponse) → BeginsWithFrame bytes m rest → read (response true) m ≡ Ok f →
     recorded_from n bytes ≡ with_lines (frame_lines n f) (recorded_from (n + 1) rest)
 recorded-whole n bytes m rest f is e =
     stepped n bytes (whole m rest) (front-begins bytes m rest is) ∙ ap (λ r. recorded_read n r (recorded_from (n + 1) rest)) e
 
-pub recorded-unreadable : (n : ℕ) (bytes m rest : List ℕ) (fault : ℕ × Fault) → Begins bytes m rest → read (response true) m ≡ Err fault →
+pub recorded-unreadable : (n : ℕ) (bytes m rest : List ℕ) (fault : ℕ × Fault) → BeginsWithFrame bytes m rest → read (response true) m ≡ Err fault →
     recorded_from n bytes ≡ bad_at n Message
 recorded-unreadable n bytes m rest fault is e =
     stepped n bytes (whole m rest) (front-begins bytes m rest is) ∙ ap (λ r. recorded_read n r (recorded_from (n + 1) rest)) e

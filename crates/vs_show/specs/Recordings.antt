@@ -2,7 +2,7 @@
 use Rattle.std.specs.Prelude.{◌≡◌, ℕ, zero, suc, ◌+◌, ◌==◌, nat_lt, if◌then◌else◌, List, [], ◌∷◌, ◌++◌, length, take, drop, Option, Some, None, Result, Ok, Err, true, ◌<◌}
 use Rattle.std.specs.Int.{w32, from_be_bytes}
 use Rattle.vs_base.specs.Limits.{most_message}
-use Rattle.vs_frame.specs.Frames.{Begins, IsGiven, IsPart, IsTooLong}
+use Rattle.vs_frame.specs.Frames.{BeginsWithFrame, IsGiven, IsPart, IsTooLong}
 use Rattle.vs_frame.specs.declared.refusal.FrameWhy.{FrameWhy}
 use Rattle.vs_frame.specs.declared.refusal.FrameWhy.TheVariants.{Cut, TooLong, Message}
 use Rattle.vs_proto.specs.Shapes.{read}
@@ -26,7 +26,7 @@ abbrev pub EndsIn : List ℕ → Option FrameWhy → Type 0
 EndsIn rest None = rest ≡ []
 EndsIn rest (Some Cut) = (0 < length rest) × IsPart rest
 EndsIn rest (Some TooLong) = (n : ℕ) × IsTooLong rest n
-EndsIn rest (Some Message) = (m more : List ℕ) × (fault : ℕ × Fault) × Begins rest m more × (read (response true) m ≡ Err fault)
+EndsIn rest (Some Message) = (m more : List ℕ) × (fault : ℕ × Fault) × BeginsWithFrame rest m more × (read (response true) m ≡ Err fault)
 
 -- the bytes are these frames, and what stands behind them is no more frame, for this reason
 pub record IsRecording (bytes : List ℕ) (frames : List VStreamResponse) (why : Option FrameWhy) : Type 0 where

@@ -30,12 +30,12 @@ abbrev pub seen : Field → Placed
 seen f = record { field = f.number; at = f.at; value = seen_value f.value }
 
 -- what a function returned, seen by view
-abbrev pub Gives : {X Y E : Type 0} → (X → Y) → Result X E → Result Y E → Type 0
-Gives view (Ok x) read = read ≡ Ok (view x)
-Gives view (Err e) read = read ≡ Err e
+abbrev pub GivesAs : {X Y E : Type 0} → (X → Y) → Result X E → Result Y E → Type 0
+GivesAs view (Ok x) read = read ≡ Ok (view x)
+GivesAs view (Err e) read = read ≡ Err e
 
 -- one step of a walk: a field and what follows it, the fault and then nothing, or nothing
-abbrev pub Steps : Walk → Option (Result Field WireRefusal) → Walk → Type 0
-Steps old None new = (old ≡ nothing) × (new ≡ nothing)
-Steps old (Some (Ok f)) new = old ≡ with_first (seen f) new
-Steps old (Some (Err e)) new = (at : ℕ) × (flaw : Flaw) × (e ≡ refusal at flaw) × (old ≡ ends_at at flaw) × (new ≡ nothing)
+abbrev pub StepsField : Walk → Option (Result Field WireRefusal) → Walk → Type 0
+StepsField old None new = (old ≡ nothing) × (new ≡ nothing)
+StepsField old (Some (Ok f)) new = old ≡ with_first (seen f) new
+StepsField old (Some (Err e)) new = (at : ℕ) × (flaw : Flaw) × (e ≡ refusal at flaw) × (old ≡ ends_at at flaw) × (new ≡ nothing)

@@ -10,7 +10,7 @@ ghost use Rattle.vs_wire.specs.Fields.{
   varint_value_in,
   wire_type_of,
 };
-ghost use Rattle.vs_wire.specs.Seen.{Gives, seen_value};
+ghost use Rattle.vs_wire.specs.Seen.{GivesAs, seen_value};
 
 use crate::Flaw;
 use crate::varint::read_varint;
@@ -58,7 +58,7 @@ impl WireType {
 /// The number and the value of the field at the front, and how many bytes it takes.
 #[tactic(auto, unfolding(crate::specs::Fields::field_in))]
 pub(crate) fn read_field<'a>(bytes: &'a [u8]) -> Result<(u32, FieldValue<'a>, usize), Flaw>
-    ensures value { Gives (λ f. (f.0, seen_value f.1, f.2)) result (field_in bytes.now) }
+    ensures value { GivesAs (λ f. (f.0, seen_value f.1, f.2)) result (field_in bytes.now) }
     ensures within { IfOk result (λ f. f.2 ≤ length bytes.now) }
 {
     let (number, wire_type, taken) = read_tag(bytes)?;
@@ -93,7 +93,7 @@ fn split_tag(tag: u64) -> Result<(u32, WireType), Flaw>
 
 #[tactic(auto, unfolding(crate::specs::Fields::value_in))]
 fn read_value<'a>(wire_type: WireType, bytes: &'a [u8]) -> Result<(FieldValue<'a>, usize), Flaw>
-    ensures value { Gives (λ v. (seen_value v.0, v.1)) result (value_in wire_type bytes.now) }
+    ensures value { GivesAs (λ v. (seen_value v.0, v.1)) result (value_in wire_type bytes.now) }
     ensures within { IfOk result (λ v. v.1 ≤ length bytes.now) }
 {
     match wire_type {
@@ -105,7 +105,7 @@ fn read_value<'a>(wire_type: WireType, bytes: &'a [u8]) -> Result<(FieldValue<'a
 }
 
 fn read_number<'a>(bytes: &'a [u8]) -> Result<(FieldValue<'a>, usize), Flaw>
-    ensures value { Gives (λ v. (seen_value v.0, v.1)) result (varint_value_in bytes.now) }
+    ensures value { GivesAs (λ v. (seen_value v.0, v.1)) result (varint_value_in bytes.now) }
     ensures within { IfOk result (λ v. v.1 ≤ length bytes.now) }
 {
     let (n, taken) = read_varint(bytes)?;
@@ -113,7 +113,7 @@ fn read_number<'a>(bytes: &'a [u8]) -> Result<(FieldValue<'a>, usize), Flaw>
 }
 
 fn read_fixed64<'a>(bytes: &'a [u8]) -> Result<(FieldValue<'a>, usize), Flaw>
-    ensures value { Gives (λ v. (seen_value v.0, v.1)) result (fixed64_in bytes.now) }
+    ensures value { GivesAs (λ v. (seen_value v.0, v.1)) result (fixed64_in bytes.now) }
     ensures within { IfOk result (λ v. v.1 ≤ length bytes.now) }
 {
     match bytes.split_first_chunk::<8>() {
@@ -123,7 +123,7 @@ fn read_fixed64<'a>(bytes: &'a [u8]) -> Result<(FieldValue<'a>, usize), Flaw>
 }
 
 fn read_fixed32<'a>(bytes: &'a [u8]) -> Result<(FieldValue<'a>, usize), Flaw>
-    ensures value { Gives (λ v. (seen_value v.0, v.1)) result (fixed32_in bytes.now) }
+    ensures value { GivesAs (λ v. (seen_value v.0, v.1)) result (fixed32_in bytes.now) }
     ensures within { IfOk result (λ v. v.1 ≤ length bytes.now) }
 {
     match bytes.split_first_chunk::<4>() {
@@ -133,7 +133,7 @@ fn read_fixed32<'a>(bytes: &'a [u8]) -> Result<(FieldValue<'a>, usize), Flaw>
 }
 
 fn read_sized<'a>(bytes: &'a [u8]) -> Result<(FieldValue<'a>, usize), Flaw>
-    ensures value { Gives (λ v. (seen_value v.0, v.1)) result (sized_in bytes.now) }
+    ensures value { GivesAs (λ v. (seen_value v.0, v.1)) result (sized_in bytes.now) }
     ensures within { IfOk result (λ v. v.1 ≤ length bytes.now) }
 {
     let (len, taken) = read_varint(bytes)?;

@@ -8,7 +8,7 @@ ghost use Rattle.vs_wire.specs.Fields.{
   spelled,
   then_from,
 };
-ghost use Rattle.vs_wire.specs.Seen.{Steps};
+ghost use Rattle.vs_wire.specs.Seen.{StepsField};
 
 use crate::field::read_field;
 use crate::{Field, Flaw, WireRefusal};
@@ -42,7 +42,7 @@ impl<'a> Fields<'a> {
 
     /// The next field, or why there is none. After a refusal, and at the end, it answers `None`.
     pub fn next_field(&mut self) -> Option<Result<Field<'a>, WireRefusal>>
-        ensures { Steps self.old result self.new }
+        ensures { StepsField self.old result self.new }
     {
         if self.bytes.is_empty() {
             return None;
