@@ -25,20 +25,23 @@ fn expect_head(rt: &impl Abort, kind: u8, length: u8, flags: u8) {
     assert_eq!(rt; read_head(&bytes), wanted);
 }
 
+/// Kinds, lengths and flags.
+static HEADS: [(u8, u8, u8); 10] = [
+    (2, 49, 0),
+    (15, 81, 0),
+    (16, 27, 0),
+    (19, 19, 0),
+    (30, 52, 1),
+    (31, 60, 1),
+    (32, 47, 1),
+    (33, 44, 0),
+    (35, 27, 0x80),
+    (255, 255, 255),
+];
+
 #[test]
 fn heads_are_read(rt: HostRuntime) {
-    for (kind, length, flags) in [
-        (2, 49, 0),
-        (15, 81, 0),
-        (16, 27, 0),
-        (19, 19, 0),
-        (30, 52, 1),
-        (31, 60, 1),
-        (32, 47, 1),
-        (33, 44, 0),
-        (35, 27, 0x80),
-        (255, 255, 255),
-    ] {
+    for &(kind, length, flags) in &HEADS {
         expect_head(&rt, kind, length, flags);
     }
 }
@@ -70,14 +73,13 @@ fn format_bytes(version: u8, head: u8, checksum: u8) -> [u8; 62] {
 #[test]
 fn formats_are_told_apart(rt: HostRuntime) {
     assert_eq!(rt; read_format(&[4; 61]), Err(FormatRefusal::ShortFormat));
-    for (version, head, checksum, wanted) in [
-        (4, 19, 0, Ok(())),
-        (3, 18, 1, Err(FormatRefusal::BadVersion { version: 3 })),
-        (4, 18, 1, Err(FormatRefusal::HeadLength { length: 18 })),
-        (4, 19, 1, Err(FormatRefusal::Checksummed { kind: 1 })),
-    ] {
-        assert_eq!(rt; read_format(&format_bytes(version, head, checksum)), wanted);
-    }
+    assert_eq!(rt; read_format(&format_bytes(4, 19, 0)), Ok(()));
+    let version = FormatRefusal::BadVersion { version: 3 };
+    assert_eq!(rt; read_format(&format_bytes(3, 18, 1)), Err(version));
+    let length = FormatRefusal::HeadLength { length: 18 };
+    assert_eq!(rt; read_format(&format_bytes(4, 18, 1)), Err(length));
+    let checksummed = FormatRefusal::Checksummed { kind: 1 };
+    assert_eq!(rt; read_format(&format_bytes(4, 19, 1)), Err(checksummed));
 }
 
 /// The body of a GTID event of the UUID `00000000-0000-0000-0000-000000000001`.
@@ -133,17 +135,20 @@ fn packed_numbers_are_read(rt: HostRuntime) {
     assert_eq!(rt; read_packed(&[255; 9]), None);
 }
 
+/// Texts, and their first words.
+static WORDS: [(&[u8], &[u8]); 7] = [
+    (b"drop table t", b"drop"),
+    (b" \t\r\n/* a */ /**/Alter", b"Alter"),
+    (b"/*!40000 drop */", b""),
+    (b"/* drop", b""),
+    (b"/*/ drop", b""),
+    (b"x_1;", b"x_1"),
+    (b"", b""),
+];
+
 #[test]
 fn first_words_are_found(rt: HostRuntime) {
-    for (text, word) in [
-        (b"drop table t".as_slice(), b"drop".as_slice()),
-        (b" \t\r\n/* a */ /**/Alter", b"Alter"),
-        (b"/*!40000 drop */", b""),
-        (b"/* drop", b""),
-        (b"/*/ drop", b""),
-        (b"x_1;", b"x_1"),
-        (b"", b""),
-    ] {
+    for &(text, word) in &WORDS {
         assert_eq!(rt; first_word(text), word);
     }
     assert!(rt; is_same_word(b"aLTer", b"ALTER"));
