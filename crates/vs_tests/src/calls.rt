@@ -2,6 +2,7 @@
 
 use crate::requests::NO_SHARD;
 use std::alloc::{AllocError, Global};
+use std::sync::Wait;
 use vs_base::{Column, ColumnKind, Gtid, List, ShardName, Text, Why};
 use vs_columns::{law_digits, law_value};
 use vs_command::connection::connection;
@@ -34,44 +35,53 @@ fn laws_are_called() {
     law_fields();
 }
 
-#[test]
-fn a_connection_reads_its_request(rt: HostRuntime) -> Result<(), AllocError> {
-    let alloc = rt.alloc();
+/// What a connection over an empty cluster answers.
+fn connect<R: Wait>(
+    rt: &R,
+    alloc: Global,
+    input: &mut MemSource,
+    output: &mut MemSink,
+) -> Result<Status, AllocError> {
     let options = Options {
         until_end: true,
         capacity: 4,
     };
-    let mut input = MemSource::new(alloc, NO_SHARD, &[])?;
-    let mut output = MemSink::new(alloc, &[])?;
     let mut tablets = MemTablets::new(alloc)?;
     let mut clock = MemClock::new(alloc, &[])?;
-    let status = connection(
-        &rt,
-        alloc,
-        options,
-        &mut input,
-        &mut output,
-        &mut tablets,
-        &mut clock,
-    );
+    Ok(connection(rt, alloc, options, input, output, &mut tablets, &mut clock))
+}
+
+#[test]
+fn a_connection_reads_its_request(rt: HostRuntime) -> Result<(), AllocError> {
+    let alloc = rt.alloc();
+    let mut input = MemSource::new(alloc, NO_SHARD, &[])?;
+    let mut output = MemSink::new(alloc, &[])?;
+    let status = connect(&rt, alloc, &mut input, &mut output)?;
     assert_eq!(rt; status.number(), 3);
     Ok(())
 }
 
-/// The line of a refused log, on an output, with a table's name that isn't UTF-8.
+/// The name of all shards of the keyspace c.
+fn whole_keyspace(alloc: Global) -> Result<ShardName, AllocError> {
+    let keyspace = Text::from_bytes(alloc, b"c")?;
+    ShardName::new(keyspace, Text::new(alloc)).ok_or(AllocError)
+}
+
+/// The refusal of a log, with a table's name that isn't UTF-8.
+fn bad_log(alloc: Global) -> Result<Status, AllocError> {
+    let table = Text::from_bytes(alloc, b"t\xff")?;
+    Ok(Status::BadLog {
+        name: whole_keyspace(alloc)?,
+        offset: 9,
+        why: Why::Disagrees { table },
+    })
+}
+
+/// The line of a refused log, on an output.
 #[test]
 fn a_line_is_written_as_its_bytes(rt: HostRuntime) -> Result<(), AllocError> {
     let alloc = rt.alloc();
-    let why = Why::Disagrees {
-        table: Text::from_bytes(alloc, b"t\xff")?,
-    };
-    let keyspace = Text::from_bytes(alloc, b"c")?;
-    let name = ShardName::new(keyspace, Text::new(alloc)).ok_or(AllocError)?;
-    let status = Status::BadLog {
-        name,
-        offset: 9,
-        why,
-    };
+    let status = bad_log(alloc)?;
     let mut output = MemSink::new(alloc, &[])?;
     assert!(rt; status.write_line(&mut output).is_ok());
     let line = b"bad log c/ at 9: table t\xff disagrees\n".as_slice();
@@ -117,9 +127,8 @@ fn a_journal_is_copied(rt: HostRuntime) -> Result<(), AllocError> {
 #[test]
 fn a_successor_is_copied(rt: HostRuntime) -> Result<(), AllocError> {
     let alloc = rt.alloc();
-    let keyspace = Text::from_bytes(alloc, b"c")?;
     let successor = Successor {
-        name: ShardName::new(keyspace, Text::new(alloc)).ok_or(AllocError)?,
+        name: whole_keyspace(alloc)?,
         position: GtidSet::new(alloc),
     };
     assert_eq!(rt; successor.copy(alloc)?.position.intervals(), 0);

@@ -17,7 +17,8 @@ use vs_outside::{
 pub struct Case<'a> {
     pub what: &'a str,
     pub input: &'a [u8],
-    pub log: &'a [u8],
+    /// The log, event by event.
+    pub log: &'a [&'a [u8]],
     pub schema: &'a [u8],
     pub input_fails: bool,
     pub fetch_fails: bool,
@@ -48,15 +49,30 @@ fn name_of(alloc: Global) -> Result<ShardName, AllocError> {
     ShardName::new(keyspace, Text::from_bytes(alloc, b"0")?).ok_or(AllocError)
 }
 
+/// The bytes of the events, one behind another.
+fn log_of(alloc: Global, events: &[&[u8]]) -> Result<Vec<u8>, AllocError> {
+    let mut log = Vec::new(alloc);
+    for event in events {
+        log.extend_from_slice(event)?;
+    }
+    Ok(log)
+}
+
+/// The answers of the one feed of the shard.
+fn scripts_of(alloc: Global, feed: &[FeedAnswer]) -> Result<Vec<Vec<FeedAnswer>>, AllocError> {
+    let mut scripts = Vec::new(alloc);
+    scripts.push(Vec::from_slice(alloc, feed)?)?;
+    Ok(scripts)
+}
+
 /// Adds the shard c/0 with the log of the case.
 fn add_shard(alloc: Global, tablets: &mut MemTablets, case: &Case<'_>) -> Result<(), AllocError> {
     let name = name_of(alloc)?;
     if !names_keyspace(name.keyspace.as_bytes()) || !names_shard(name.shard.as_bytes()) {
         return Err(AllocError);
     }
-    let mut scripts = Vec::new(alloc);
-    scripts.push(Vec::from_slice(alloc, case.feed)?)?;
-    tablets.add(name, case.log, case.schema, scripts)
+    let log = log_of(alloc, case.log)?;
+    tablets.add(name, &log, case.schema, scripts_of(alloc, case.feed)?)
 }
 
 /// Tablets with the one shard c/0.

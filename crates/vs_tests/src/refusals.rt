@@ -2,8 +2,8 @@
 
 use crate::case::{CASE, Case, check, check_words};
 use crate::requests::{
-    ALL_SHARDS, COPY, CUT, DOTS, LAST_ENTRY, MANY_HEAD, MOST_ENTRIES, MOST_HEAD, NEEDS_SHARD,
-    NO_MESSAGE, NO_SHARD, TOO_LONG, WITH_BEAT, WITH_RULE, ZERO,
+    ALL_SHARDS, COPY, CUT, DOTS, MANY_HEAD, MOST_HEAD, NEEDS_SHARD, NO_MESSAGE, NO_SHARD, TOO_LONG,
+    WITH_BEAT, WITH_RULE, ZERO,
 };
 use std::alloc::{AllocError, Global};
 
@@ -86,18 +86,31 @@ fn an_entry_is_refused(rt: HostRuntime) -> Result<(), AllocError> {
     check(&rt, rt.alloc(), &ENTRIES)
 }
 
-/// A request for 64 shards, or for 65.
-fn request_for(alloc: Global, head: &[u8], more: &[u8]) -> Result<Vec<u8>, AllocError> {
+/// The entry for a shard of the keyspace c whose name is a number below 100.
+fn put_entry(alloc: Global, request: &mut Vec<u8>, shard: u64) -> Result<(), AllocError> {
+    let name = shard.to_string(alloc)?;
+    request.extend_from_slice(if shard < 10 {
+        b"\x0a\x10\x0a\x01c\x12\x01"
+    } else {
+        b"\x0a\x11\x0a\x01c\x12\x02"
+    })?;
+    request.extend_from_slice(name.as_bytes())?;
+    request.extend_from_slice(b"\x1a\x08MySQL56/")
+}
+
+/// A request for so many shards, behind its front.
+fn request_for(alloc: Global, head: &[u8], shards: u64) -> Result<Vec<u8>, AllocError> {
     let mut request = Vec::from_slice(alloc, head)?;
-    request.extend_from_slice(MOST_ENTRIES)?;
-    request.extend_from_slice(more)?;
+    for shard in 0..shards {
+        put_entry(alloc, &mut request, shard)?;
+    }
     Ok(request)
 }
 
 #[test]
 fn so_many_shards_are_refused(rt: HostRuntime) -> Result<(), AllocError> {
     let alloc = rt.alloc();
-    let many = request_for(alloc, MANY_HEAD, LAST_ENTRY)?;
+    let many = request_for(alloc, MANY_HEAD, 65)?;
     let case = Case {
         input: &many,
         line: "request: TooManyShards 65",
@@ -109,7 +122,7 @@ fn so_many_shards_are_refused(rt: HostRuntime) -> Result<(), AllocError> {
 #[test]
 fn more_than_one_shard_is_not_built(rt: HostRuntime) -> Result<(), AllocError> {
     let alloc = rt.alloc();
-    let most = request_for(alloc, MOST_HEAD, b"")?;
+    let most = request_for(alloc, MOST_HEAD, 64)?;
     let case = Case {
         input: &most,
         line: "request: NotBuilt 1",

@@ -21,7 +21,7 @@ static WHOLE_LOGS: [Case<'static>; 6] = [
     },
     Case {
         what: "a log without a byte",
-        log: b"",
+        log: &[],
         ..CASE
     },
     Case {
