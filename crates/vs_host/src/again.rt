@@ -1,5 +1,5 @@
 //! Reads and writes that a signal may interrupt.
-ghost use Rattle.std.specs.Prelude.{◌≤◌, ◌<◌, ◌≢◌, length, IfErr, IfOk};
+ghost use Rattle.std.specs.Prelude.{◌≡◌, ◌≤◌, ◌<◌, ◌≢◌, length, IfErr, IfOk, IfSome};
 ghost use Rattle.std.specs.IoError.{error_kind};
 
 use std::alloc::Global;
@@ -24,7 +24,8 @@ pub fn read_again<R: Read>(reader: &mut R, buf: &mut [u8]) -> Result<usize, Fail
 
 /// Reads to the end, again after each interrupt.
 pub fn read_rest<R: Read>(reader: &mut R, alloc: Global) -> io::Result<Vec<u8>>
-    ensures { IfErr result (λ e. error_kind e ≢ ErrorKind.Interrupted) }
+    ensures whole { IfOk result (λ bytes. IfSome (R.remaining reader.old) (λ left. bytes.items ≡ left)) }
+    ensures retried { IfErr result (λ e. error_kind e ≢ ErrorKind.Interrupted) }
 {
     let mut bytes = Vec::new(alloc);
     match reader.read_to_end(&mut bytes) {
