@@ -1,5 +1,6 @@
 //! Reads and writes that a signal may interrupt.
 ghost use Rattle.std.specs.Prelude.{◌≡◌, ◌≤◌, ◌<◌, ◌≢◌, length, IfErr, IfOk, IfSome};
+ghost use Rattle.std.specs.Io.KnownBytes.{ReadConsumes};
 ghost use Rattle.std.specs.IoError.{error_kind};
 
 use std::alloc::Global;
@@ -7,12 +8,13 @@ use std::io;
 use std::io::{ErrorKind, Read};
 use vs_outside::Failed;
 
-/// Reads, again after each interrupt. Every other refusal is a failure: also that of a descriptor
+/// Reads, again after each interrupt, which takes no byte. Every other refusal is a failure: also that of a descriptor
 /// that does not block and has nothing yet.
 pub fn read_again<R: Read>(reader: &mut R, buf: &mut [u8]) -> Result<usize, Failed>
-    ensures { IfOk result (λ n. n ≤ length buf.old) }
+    ensures fits { IfOk result (λ n. n ≤ length buf.old) }
+    ensures bytes { ReadConsumes (R.remaining reader.old) (R.remaining reader.new) result buf.new }
 {
-    for _ in 0..u64::MAX {
+    for _turn in 0..u64::MAX {
         match reader.read(buf) {
             Ok(n) => return Ok(n),
             Err(error) if error.kind() == ErrorKind::Interrupted => {}
