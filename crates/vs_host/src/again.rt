@@ -1,5 +1,6 @@
 //! Reads and writes that a signal may interrupt.
-ghost use Rattle.std.specs.Prelude.{◌≤◌, ◌<◌, ◌≢◌, length, IfErr, IfOk};
+ghost use Rattle.std.specs.Prelude.{◌≡◌, ◌≤◌, ◌<◌, ◌≢◌, length, IfErr, IfOk, IfSome};
+ghost use Rattle.std.specs.Io.KnownBytes.{ReadConsumes};
 ghost use Rattle.std.specs.IoError.{error_kind};
 
 use std::alloc::Global;
@@ -7,12 +8,13 @@ use std::io;
 use std::io::{ErrorKind, Read};
 use vs_outside::Failed;
 
-/// Reads, again after each interrupt. Every other refusal is a failure: also that of a descriptor
+/// Reads, again after each interrupt, which takes no byte. Every other refusal is a failure: also that of a descriptor
 /// that does not block and has nothing yet.
 pub fn read_again<R: Read>(reader: &mut R, buf: &mut [u8]) -> Result<usize, Failed>
-    ensures { IfOk result (λ n. n ≤ length buf.old) }
+    ensures fits { IfOk result (λ n. n ≤ length buf.old) }
+    ensures bytes { ReadConsumes (R.remaining reader.old) (R.remaining reader.new) result buf.new }
 {
-    for _ in 0..u64::MAX {
+    for _turn in 0..u64::MAX {
         match reader.read(buf) {
             Ok(n) => return Ok(n),
             Err(error) if error.kind() == ErrorKind::Interrupted => {}
@@ -24,7 +26,8 @@ pub fn read_again<R: Read>(reader: &mut R, buf: &mut [u8]) -> Result<usize, Fail
 
 /// Reads to the end, again after each interrupt.
 pub fn read_rest<R: Read>(reader: &mut R, alloc: Global) -> io::Result<Vec<u8>>
-    ensures { IfErr result (λ e. error_kind e ≢ ErrorKind.Interrupted) }
+    ensures whole { IfOk result (λ bytes. IfSome (R.remaining reader.old) (λ left. bytes.items ≡ left)) }
+    ensures retried { IfErr result (λ e. error_kind e ≢ ErrorKind.Interrupted) }
 {
     let mut bytes = Vec::new(alloc);
     match reader.read_to_end(&mut bytes) {
