@@ -25,14 +25,14 @@ field strict = plain (record { name = []; kind = pos 0 }) (
     slot 1 (text strict) (lens (λ m. m.name) (λ m x. record m { name = x }))
     ∷ slot 2 enumeration (lens (λ m. m.kind) (λ m x. record m { kind = x }))
     ∷ []
-) refl refl
+    ) refl refl
 
 unfoldable pub field_event : Bool → Shape FieldEvent
 field_event strict = plain (record { table_name = []; fields = [] }) (
     slot 1 (text strict) (lens (λ m. m.table_name) (λ m x. record m { table_name = x }))
     ∷ slot 2 (many (field strict)) (lens (λ m. m.fields) (λ m x. record m { fields = x }))
     ∷ []
-) refl refl
+    ) refl refl
 
 unfoldable pub row : Bool → Shape Row
 row strict = record {
@@ -50,21 +50,21 @@ row_change strict = plain (record { before = None; after = None }) (
     slot 1 (one (row strict)) (lens (λ m. m.before) (λ m x. record m { before = x }))
     ∷ slot 2 (one (row strict)) (lens (λ m. m.after) (λ m x. record m { after = x }))
     ∷ []
-) refl refl
+    ) refl refl
 
 unfoldable pub row_event : Bool → Shape RowEvent
 row_event strict = plain (record { table_name = []; row_changes = [] }) (
     slot 1 (text strict) (lens (λ m. m.table_name) (λ m x. record m { table_name = x }))
     ∷ slot 2 (many (row_change strict)) (lens (λ m. m.row_changes) (λ m x. record m { row_changes = x }))
     ∷ []
-) refl refl
+    ) refl refl
 
 unfoldable pub table_key : Bool → Shape TableKey
 table_key strict = plain (record { table_name = []; key = None }) (
     slot 1 (text strict) (lens (λ m. m.table_name) (λ m x. record m { table_name = x }))
     ∷ slot 2 (one (row strict)) (lens (λ m. m.key) (λ m x. record m { key = x }))
     ∷ []
-) refl refl
+    ) refl refl
 
 unfoldable pub shard_gtid : Bool → Shape ShardGtid
 shard_gtid strict = plain (record { keyspace = []; shard = []; gtid = []; table_p_ks = [] }) (
@@ -73,20 +73,20 @@ shard_gtid strict = plain (record { keyspace = []; shard = []; gtid = []; table_
     ∷ slot 3 (text strict) (lens (λ m. m.gtid) (λ m x. record m { gtid = x }))
     ∷ slot 4 (many (table_key strict)) (lens (λ m. m.table_p_ks) (λ m x. record m { table_p_ks = x }))
     ∷ []
-) refl refl
+    ) refl refl
 
 unfoldable pub vgtid : Bool → Shape VGtid
 vgtid strict = plain (record { shard_gtids = [] }) (
     slot 1 (many (shard_gtid strict)) (lens (λ m. m.shard_gtids) (λ m x. record m { shard_gtids = x }))
     ∷ []
-) refl refl
+    ) refl refl
 
 unfoldable pub keyspace_shard : Bool → Shape KeyspaceShard
 keyspace_shard strict = plain (record { keyspace = []; shard = [] }) (
     slot 1 (text strict) (lens (λ m. m.keyspace) (λ m x. record m { keyspace = x }))
     ∷ slot 2 (text strict) (lens (λ m. m.shard) (λ m x. record m { shard = x }))
     ∷ []
-) refl refl
+    ) refl refl
 
 unfoldable pub journal : Bool → Shape Journal
 journal strict = plain (record { id = pos 0; migration_type = pos 0; tables = []; local_position = []; shard_gtids = []; participants = [] }) (
@@ -97,7 +97,7 @@ journal strict = plain (record { id = pos 0; migration_type = pos 0; tables = []
     ∷ slot 5 (many (shard_gtid strict)) (lens (λ m. m.shard_gtids) (λ m x. record m { shard_gtids = x }))
     ∷ slot 6 (many (keyspace_shard strict)) (lens (λ m. m.participants) (λ m x. record m { participants = x }))
     ∷ []
-) refl refl
+    ) refl refl
 
 unfoldable pub event : Bool → Shape VEvent
 event strict = plain (record { kind = pos 0; timestamp = pos 0; gtid = []; statement = []; row_event = None; field_event = None; vgtid = None; journal = None; current_time = pos 0; keyspace = []; shard = [] }) (
@@ -113,26 +113,26 @@ event strict = plain (record { kind = pos 0; timestamp = pos 0; gtid = []; state
     ∷ slot 22 (text strict) (lens (λ m. m.keyspace) (λ m x. record m { keyspace = x }))
     ∷ slot 23 (text strict) (lens (λ m. m.shard) (λ m x. record m { shard = x }))
     ∷ []
-) refl refl
+    ) refl refl
 
 unfoldable pub response : Bool → Shape VStreamResponse
 response strict = plain (record { events = [] }) (
     slot 1 (many (event strict)) (lens (λ m. m.events) (λ m x. record m { events = x }))
     ∷ []
-) refl refl
+    ) refl refl
 
 unfoldable pub rule : Bool → Shape Rule
 rule strict = plain (record { pattern = []; filter = [] }) (
     slot 1 (text strict) (lens (λ m. m.pattern) (λ m x. record m { pattern = x }))
     ∷ slot 2 (text strict) (lens (λ m. m.filter) (λ m x. record m { filter = x }))
     ∷ []
-) refl refl
+    ) refl refl
 
 unfoldable pub filter : Bool → Shape Filter
 filter strict = plain (record { rules = [] }) (
     slot 1 (many (rule strict)) (lens (λ m. m.rules) (λ m x. record m { rules = x }))
     ∷ []
-) refl refl
+    ) refl refl
 
 unfoldable pub flags : Bool → Shape Flags
 flags strict = plain (record { max_skew = 0; heartbeat_interval = 0; stop_on_reshard = false; include_journals = false }) (
@@ -141,7 +141,7 @@ flags strict = plain (record { max_skew = 0; heartbeat_interval = 0; stop_on_res
     ∷ slot 3 flag (lens (λ m. m.stop_on_reshard) (λ m x. record m { stop_on_reshard = x }))
     ∷ slot 4 flag (lens (λ m. m.include_journals) (λ m x. record m { include_journals = x }))
     ∷ []
-) refl refl
+    ) refl refl
 
 unfoldable pub request : Bool → Shape VStreamRequest
 request strict = plain (record { vgtid = None; filter = None; flags = None }) (
@@ -149,4 +149,4 @@ request strict = plain (record { vgtid = None; filter = None; flags = None }) (
     ∷ slot 2 (one (filter strict)) (lens (λ m. m.filter) (λ m x. record m { filter = x }))
     ∷ slot 3 (one (flags strict)) (lens (λ m. m.flags) (λ m x. record m { flags = x }))
     ∷ []
-) refl refl
+    ) refl refl

@@ -25,6 +25,7 @@ ghost use Rattle.vs_proto.specs.Tables.{
 };
 
 /// Each message is read as an equal value once it is written.
+#[tactic(auto, using(crate::proofs::MessageLaws::request_again, crate::proofs::MessageLaws::filter_again, crate::proofs::MessageLaws::rule_again, crate::proofs::MessageLaws::flags_again, crate::proofs::MessageLaws::response_again, crate::proofs::MessageLaws::event_again, crate::proofs::MessageLaws::row_event_again, crate::proofs::MessageLaws::row_change_again, crate::proofs::MessageLaws::field_event_again, crate::proofs::MessageLaws::field_again, crate::proofs::MessageLaws::row_again, crate::proofs::MessageLaws::vgtid_again, crate::proofs::MessageLaws::shard_gtid_again, crate::proofs::MessageLaws::table_key_again, crate::proofs::MessageLaws::keyspace_shard_again, crate::proofs::MessageLaws::journal_again))]
 pub fn law_messages()
     ensures of_request { IsReadAgain (request true) }
     ensures of_filter { IsReadAgain (filter true) }
@@ -46,6 +47,7 @@ pub fn law_messages()
 
 /// Lists of events with equal bytes are equal, and so are lists of frames; no frame's bytes begin
 /// another's.
+#[tactic(auto, using(crate::proofs::FrameLaws::spells_events_once, crate::proofs::FrameLaws::spells_once, crate::proofs::FrameLaws::none_begins))]
 pub fn law_spelling()
     ensures events { SpellsEventsOnce }
     ensures frames { SpellsOnce }
