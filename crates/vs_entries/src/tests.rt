@@ -28,10 +28,10 @@ fn front(alloc: Global) -> Result<Vec<u8>, AllocError> {
 /// A log of events, of the kinds and bodies that are told, each a second behind the one before.
 fn log_of(alloc: Global, events: &[(u8, &[u8])]) -> Result<Vec<u8>, AllocError> {
     let mut log = front(alloc)?;
-    let mut time = 99;
+    let mut time = 99u32;
     for (kind, body) in events {
         put_event(&mut log, time, *kind, body)?;
-        time = (time + 1) % 1_000;
+        time = time.saturating_add(1);
     }
     Ok(log)
 }
@@ -96,9 +96,9 @@ fn goes_on(reader: &mut Reader, byte: u8, fed: usize) -> bool {
 fn gives_entries_byte_by_byte(rt: HostRuntime) -> Result<(), Fail> {
     let log = log_of(rt.alloc(), TWO_DROPS)?;
     let mut reader = reader(rt.alloc())?;
-    let mut fed = 0;
+    let mut fed = 0usize;
     for byte in log.as_slice() {
-        fed = (fed + 1) % 1_000;
+        fed = fed.saturating_add(1);
         assert!(rt; goes_on(&mut reader, *byte, fed));
     }
     assert_eq!(rt; (fed, reader.held()), (298, 0));
