@@ -1,15 +1,17 @@
 -- Why a filter isn't built, rule by rule.
-use Rattle.std.proofs.Common.{◌≡◌, ℕ, ◌+◌, ◌-◌, ◌<◌, ◌≤◌, List, Some, None, IsSomeAnd, All, length, get_or, take, drop, sym, ap, ◌∙◌, subst, arith}
+use Rattle.std.proofs.Common.{◌≡◌, ℕ, ◌+◌, ◌-◌, ◌++◌, ◌∷◌, [], map, ◌<◌, ◌≤◌, List, Some, None, IsSomeAnd, length, get_or, take, drop, sym, ap, ◌∙◌, subst, arith}
 use Rattle.std.specs.List.{slice_get}
+use Rattle.std.proofs.lemmas.List.{map-append, take_more}
 use Rattle.std.proofs.lemmas.Option.{slice_get-get_or}
 use Rattle.vs_base.specs.declared.rule_text.RuleText.{RuleText}
 use Rattle.vs_outside.specs.Counts.{Rose}
 use Rattle.vs_outside.specs.Patterns.{IsPattern}
-use Rattle.vs_filter.specs.Causes.{HasNoPattern, HasPatternAt, NotBuiltIs, RuleRefusalIs}
+use Rattle.vs_filter.specs.Causes.{HasNoPattern, HasPatternAt, NotBuiltIs, RuleRefusalIs, meant_as}
 use Rattle.vs_filter.specs.Fits.{IsRegexMatch, trimmed}
-use Rattle.vs_filter.specs.Rules.{Fault, NoPattern, NoSelect, fault_of, first_fault, first_from}
+use Rattle.vs_filter.specs.Rules.{NoPattern, NoSelect, fault_of, first_fault, first_from, meant_by}
 use Rattle.vs_filter.specs.declared.filter.FilterRefusal.{FilterRefusal}
 use Rattle.vs_filter.specs.declared.filter.FilterRefusal.TheVariants as refusal
+use Rattle.vs_filter.specs.declared.rule.Rule.{Rule}
 use Rattle.vs_filter.proofs.FirstLemmas.{first_at}
 
 rose_before : (before mid now : ℕ) → before ≤ mid → Rose mid now → Rose before now
@@ -33,3 +35,11 @@ module _ (rules : List RuleText) (i : ℕ) (rule : RuleText) (lt : i < length ru
       (subst (HasPatternAt rules) (sym same) here, rose_before before mid now le rose)
   not_built before mid now left front le (refusal.Unbound index why) none = absurd none
   not_built before mid now left front le refusal.Memory m = m
+
+  -- one rule more
+  pub built_more : (built new : List Rule) (made : Rule) → new ≡ built ++ made ∷ [] → map meant_as built ≡ map meant_by (take i rules) →
+      meant_as made ≡ meant_by rule → map meant_as new ≡ map meant_by (take (i + 1) rules)
+  built_more built new made pushed before meant =
+      let more : take (i + 1) rules ≡ take i rules ++ rule ∷ [] = take_more rules i rule lt ∙ ap (λ r. take i rules ++ r ∷ []) (sym is) in
+      ap (map meant_as) pushed ∙ map-append meant_as built (made ∷ []) ∙ ap (λ ms. ms ++ meant_as made ∷ []) before
+      ∙ ap (λ m. map meant_by (take i rules) ++ m ∷ []) meant ∙ sym (ap (map meant_by) more ∙ map-append meant_by (take i rules) (rule ∷ []))

@@ -1,15 +1,15 @@
 -- Picked tables by their names.
-use Rattle.std.proofs.Common.{◌≡◌, ℕ, suc, ◌<◌, ◌≤◌, Bool, true, false, List, [], ◌∷◌, Option, Some, None, map, length, cond, refl, sym, ap, ◌∙◌, inl, inr, arith, IfSome}
+use Rattle.std.proofs.Common.{◌≡◌, ℕ, suc, true, List, [], ◌∷◌, Option, Some, None, map, sym, ◌∙◌, inl, inr, arith, IfSome}
 use Rattle.std.specs.Prelude.{nat_eq}
 use Rattle.std.specs.List.{Contains}
 use Rattle.std.specs.Option.{option_and_then}
 use Rattle.std.specs.Cmp.Lexicographic.{pointwise}
 use Rattle.std.proofs.lemmas.Slice.Eq.{bytes_eq-Decides}
-use Rattle.std.proofs.lemmas.Bool.{cases_Bool, cond-true, cond-false}
+use Rattle.std.proofs.lemmas.Bool.{cases_Bool, cond-false}
 use Rattle.std.proofs.lemmas.Option.{none-some}
 use Rattle.vs_base.specs.declared.cell.Cell.{Cell}
 use Rattle.vs_select.specs.Rows.{taken_row}
-use Rattle.vs_filter.specs.Picks.{picked_in, row_in}
+use Rattle.vs_filter.specs.Picks.{picked_in}
 use Rattle.vs_filter.specs.declared.bound.Picked.{Picked}
 
 abbrev names_in : List Picked → List (List ℕ)

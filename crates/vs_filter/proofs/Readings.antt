@@ -1,15 +1,15 @@
 -- What a pattern that was built is found in, and slashes at the ends of a text.
-use Rattle.std.proofs.Common.{◌≡◌, ◌≢◌, ℕ, ◌<◌, Bool, true, false, ◌||◌, List, Option, Some, None, IsSomeAnd, All, get_or, length, is_some, refl, sym, ap, ◌∙◌, subst, inl, inr, arith}
+use Rattle.std.proofs.Common.{◌≡◌, ℕ, ◌<◌, Bool, true, false, ◌||◌, List, Option, Some, None, IsSomeAnd, All, get_or, length, is_some, sym, ap, ◌∙◌, subst, inl, inr, arith}
 use Rattle.std.specs.Prelude.{chars}
 use Rattle.std.specs.Option.{option_map_or}
 use Rattle.std.proofs.lemmas.Bool.{cases_lt, cond-true}
-use Rattle.std.proofs.lemmas.List.{get_or_default, get_or_past}
+use Rattle.std.proofs.lemmas.List.{get_or_past}
 use Rattle.regex.specs.Bytes.{IsReadFromSource, regex_config, regex_pattern, regex_source}
 use Rattle.regex.specs.Patterns.{Re, Reads, SameCaptures, find}
 use Rattle.regex.specs.declared.bytes.regex.Regex.{Regex}
 use Rattle.regex.proofs.ForCallers.{is_match_alike}
 use Rattle.regex_syntax.specs.Brackets.{Nested}
-use Rattle.regex_syntax.specs.Grammar.{Names, group_count, read}
+use Rattle.regex_syntax.specs.Grammar.{Names, read}
 use Rattle.vs_outside.specs.Patterns.{byte_config}
 use Rattle.vs_filter.specs.Fits.{begins_with_slash, fits, is_any, is_found, pattern_fits, trimmed}
 
