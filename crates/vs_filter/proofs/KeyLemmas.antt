@@ -5,7 +5,6 @@ use Rattle.std.specs.Option.{option_and_then, option_map_or, unwrap_or}
 use Rattle.std.proofs.lemmas.Bool.{cases_Bool, cond-true, cond-false, eqb-true, false≢true}
 use Rattle.std.proofs.lemmas.Option.{none-some, same_Some}
 use Rattle.vs_base.specs.declared.cell.Cell.{Cell}
-use Rattle.vs_base.specs.declared.cell.Cell.TheVariants as Cell
 use Rattle.vs_base.specs.declared.table.Table.{Table}
 use Rattle.vs_base.specs.Keys.{cell_at, project}
 use Rattle.vs_select.specs.Rows.{keeps, taken_row}

@@ -9,7 +9,6 @@ use Rattle.std.specs.declared.cmp.Ordering.TheVariants.{Less, Equal, Greater}
 use Rattle.std.proofs.lemmas.Cmp.{int_cmp_total, nat_cmp_total, nat_list_cmp_total, on_total, then_total}
 use Rattle.std.proofs.lemmas.Bool.Decides.{nat_tests}
 use Rattle.vs_base.specs.declared.cell.Cell.{Cell}
-use Rattle.vs_base.specs.declared.cell.Cell.TheVariants as Cell
 use Rattle.vs_base.specs.declared.table.ColumnKind.{ColumnKind}
 use Rattle.vs_base.specs.Keys.{cell_order, key_order, number_order, text_order}
 use Rattle.vs_base.specs.Numbers.{number_of}

@@ -7,7 +7,6 @@ use Rattle.regex_syntax.specs.Grammar.{read}
 use Rattle.regex.specs.Bytes.{regex_pattern}
 use Rattle.vs_outside.specs.Patterns.{byte_config, is_pattern_text}
 use Rattle.vs_filter.specs.declared.rule_match.Fitting.{Fitting}
-use Rattle.vs_filter.specs.declared.rule_match.Fitting.TheVariants as Fitting
 
 -- the match stands for a pattern: it begins with a slash
 abbrev pub begins_with_slash : List ℕ → Bool

@@ -165,6 +165,7 @@ impl<R: Files<File = File> + Alloc + Clone + Drop> Tablets for FolderTablets<R> 
     fn give_back(&mut self, name: &ShardName, feed: FileFeed) {
         self.openings.add(name, feed.faults(), 0);
     }
+
     fn pattern(&mut self, alloc: Global, text: &[u8]) -> Result<Regex, PatternEnd> {
         self.patterns.pattern(alloc, text)
     }

@@ -10,8 +10,6 @@ use Rattle.vs_select.specs.declared.part.Part.{Part}
 use Rattle.vs_select.specs.declared.part.Part.TheVariants as part
 use Rattle.vs_select.specs.declared.select.Comparison.{Comparison}
 use Rattle.vs_select.specs.declared.select.Comparison.TheVariants.{Equal, NotEqual, Less, AtMost, Greater, AtLeast}
-
-
 use Rattle.vs_select.proofs.ReadLemmas.{digit-is-word, of_choice}
 use Rattle.vs_select.proofs.SpellLaws.{IsCut, Stands, alone, another, backquote_all, backquote_is, bytes_cut, ends_freely, ends_number, ends_word, front_and_rest, front_passes, no, number_stops, one_front, quote_all, quote_is, quoted_cut, sign_cut, stops_behind, while-yes, word_stops, yes}
 

@@ -11,7 +11,6 @@ use Rattle.vs_select.specs.declared.part.Part.{Part}
 use Rattle.vs_select.specs.declared.part.Part.TheVariants as part
 use Rattle.vs_select.specs.declared.select.Comparison.{Comparison}
 use Rattle.vs_select.specs.declared.select.Comparison.TheVariants.{NotEqual, AtMost, AtLeast}
-
 use Rattle.vs_select.proofs.ReadLemmas.{behind-first, of_choice}
 
 -- ---- choices
