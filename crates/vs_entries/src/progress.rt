@@ -100,18 +100,21 @@ impl Progress {
 
     /// The bytes that an event makes with the entry that is open, or alone where it is passed over.
     #[tactic(auto, unfolding(vs_log::specs::Table::bytes_with), using(crate::proofs::Lines::sum_with_counted))]
-    fn bytes_with(&self, event: &[u8]) -> u64
-        requires { 19 ≤ length event.now }
+    fn bytes_with(&self, event: &[u8], sort: Sort) -> u64
+        requires head { 19 ≤ length event.now }
+        requires kind { sort ≡ sort_of event.now }
         ensures { result ≡ bytes_with (state_of self.now).place event.now }
     {
         let length = read_head(event).length as u64;
-        match sort_in(event) {
+        match sort {
             Sort::PassedOver => length,
             _ => self.size() as u64 + length,
         }
     }
 
     /// What is wrong with an event of which not all bytes are there, by its head alone.
+    // Not inlined: a function makes room at its entry for all that is inlined into it.
+    #[inline(never)]
     #[tactic(auto, unfolding(vs_log::specs::Meaning::head_refusal))]
     pub fn head_fault(&self, rest: &[u8], at: usize) -> Option<Why>
         requires { at ≤ last_place }
@@ -122,7 +125,7 @@ impl Progress {
             Step::Bad { length } => return Some(Why::BadLength { length }),
             Step::Event(head) => head.length,
         };
-        let bytes = self.bytes_with(rest);
+        let bytes = self.bytes_with(rest, sort_in(rest));
         if bytes > LIMIT {
             return Some(Why::TooLarge { bytes });
         }
@@ -147,33 +150,38 @@ impl Progress {
         ensures takes { TakesEvent result self.old self.new (step (rules_of keyspace.now schema.now) (state_of self.old) event.now) }
         ensures early { is_early self.old.standing ≡ true → IfOk result (λ o. o ≡ None) }
     {
-        let bytes = self.bytes_with(event);
+        let sort = sort_in(event);
+        let bytes = self.bytes_with(event, sort);
         if bytes > LIMIT {
             return Err(Refusal::Wrong(Why::TooLarge { bytes }));
         }
         match self.standing {
             Standing::Front => {
-                self.take_first(event)?;
+                self.take_first(event, sort)?;
                 Ok(None)
             }
             Standing::Between { first } => {
-                self.take_between(alloc, event, first)?;
+                self.take_between(alloc, event, sort, first)?;
                 Ok(None)
             }
-            Standing::Named { gtid, bytes } => self.take_named(alloc, event, keyspace, gtid, bytes),
+            Standing::Named { gtid, bytes } => {
+                self.take_named(alloc, event, sort, keyspace, gtid, bytes)
+            }
             Standing::Inside { gtid, bytes } => {
-                self.take_inside(alloc, event, keyspace, schema, gtid, bytes)
+                self.take_inside(alloc, event, sort, keyspace, schema, gtid, bytes)
             }
         }
     }
 
     /// Takes the first event of a log.
+    #[inline(never)]
     #[tactic(auto, using(crate::proofs::Lines::line_front_other))]
-    fn take_first(&mut self, event: &[u8]) -> Result<(), Refusal>
-        requires { 19 ≤ length event.now }
+    fn take_first(&mut self, event: &[u8], sort: Sort) -> Result<(), Refusal>
+        requires head { 19 ≤ length event.now }
+        requires kind { sort ≡ sort_of event.now }
         ensures { Moves result self.old self.new (line any_rules (state_of self.old) event.now Front (sort_of event.now)) }
     {
-        match sort_in(event) {
+        match sort {
             Sort::FormatEvent => match format_fault(body_of(event)) {
                 Some(why) => Err(Refusal::Wrong(why)),
                 None => {
@@ -186,11 +194,18 @@ impl Progress {
     }
 
     /// Takes an event between entries.
-    fn take_between(&mut self, alloc: Global, event: &[u8], first: bool) -> Result<(), Refusal>
-        requires { 19 ≤ length event.now }
+    fn take_between(
+        &mut self,
+        alloc: Global,
+        event: &[u8],
+        sort: Sort,
+        first: bool,
+    ) -> Result<(), Refusal>
+        requires head { 19 ≤ length event.now }
+        requires kind { sort ≡ sort_of event.now }
         ensures { Moves result self.old self.new (line any_rules (state_of self.old) event.now (Between first) (sort_of event.now)) }
     {
-        match sort_in(event) {
+        match sort {
             Sort::AnonymousEvent => Err(Refusal::Wrong(Why::Anonymous)),
             Sort::PassedOver => Ok(()),
             Sort::PreviousEvent if first => self.take_base(alloc, event),
@@ -205,20 +220,23 @@ impl Progress {
     }
 
     /// Takes an event behind the GTID event of an entry.
+    #[inline(never)]
     #[tactic(auto, unfolding(vs_log::specs::Table::bytes_with), using(crate::proofs::Lines::sum_with_counted))]
     fn take_named(
         &mut self,
         alloc: Global,
         event: &[u8],
+        sort: Sort,
         keyspace: &[u8],
         gtid: Gtid,
         bytes: u32,
     ) -> Result<Option<Entry>, Refusal>
         requires head { 19 ≤ length event.now }
+        requires kind { sort ≡ sort_of event.now }
         requires size { bytes_with {M = Tables} (Named gtid bytes) event.now ≤ limit }
         ensures { TakesEvent result self.old self.new (line (rules_of keyspace.now no_schema) (state_of self.old) event.now (Named gtid bytes) (sort_of event.now)) }
     {
-        match sort_in(event) {
+        match sort {
             Sort::AnonymousEvent => Err(Refusal::Wrong(Why::Anonymous)),
             Sort::PassedOver => Ok(None),
             Sort::QueryEvent => self.take_query(alloc, event, keyspace, gtid, bytes),
@@ -232,21 +250,24 @@ impl Progress {
     }
 
     /// Takes an event inside a transaction.
+    #[inline(never)]
     #[tactic(auto, unfolding(vs_log::specs::Table::bytes_with), using(crate::proofs::Lines::sum_with_counted))]
     fn take_inside(
         &mut self,
         alloc: Global,
         event: &[u8],
+        sort: Sort,
         keyspace: &[u8],
         schema: &Schema,
         gtid: Gtid,
         bytes: u32,
     ) -> Result<Option<Entry>, Refusal>
         requires head { 19 ≤ length event.now }
+        requires kind { sort ≡ sort_of event.now }
         requires size { bytes_with (Inside gtid bytes self.old.maps (Rows self.old.changes)) event.now ≤ limit }
         ensures { TakesEvent result self.old self.new (line (rules_of keyspace.now schema.now) (state_of self.old) event.now (Inside gtid bytes self.old.maps (Rows self.old.changes)) (sort_of event.now)) }
     {
-        match sort_in(event) {
+        match sort {
             Sort::AnonymousEvent => Err(Refusal::Wrong(Why::Anonymous)),
             Sort::PassedOver => Ok(None),
             Sort::QueryEvent => self.take_later_query(alloc, event, keyspace, gtid, bytes),
@@ -269,6 +290,7 @@ impl Progress {
     }
 
     /// Takes a PREVIOUS_GTIDS event.
+    #[inline(never)]
     fn take_base(&mut self, alloc: Global, event: &[u8]) -> Result<(), Refusal>
         requires { 19 ≤ length event.now }
         ensures { Moves result self.old self.new (with_previous (state_of self.old) event.now) }
