@@ -16,15 +16,13 @@ use Rattle.vs_entries.specs.Laws.{LogLaws}
 use Rattle.vs_entries.specs.Pieces.{Fed, GivesEntry, log_fed}
 use Rattle.vs_entries.specs.Reading.{is_early, place_of, state_of, with_entries}
 use Rattle.vs_entries.specs.Rules.{rules_of}
-use Rattle.vs_entries.specs.Walks.{IsBack, IsBegunAt, IsFresh, IsOver, IsStuck, IsWalk, KeepsFault, ReadsTo, Stands, Tells}
+use Rattle.vs_entries.specs.Walks.{IsBack, IsBegunAt, IsFresh, IsOver, IsStuck, IsWalk, KeepsFault, ReadsEnd, Stands, Tells}
 use Rattle.vs_entries.specs.Windows.{Windowed}
 use Rattle.vs_entries.specs.declared.fault.Fault.{Fault}
 use Rattle.vs_entries.specs.declared.standing.Standing.{Standing}
 use Rattle.vs_entries.specs.declared.standing.Standing.TheVariants.{Front, Between, Named, Inside}
 use Rattle.vs_entries.specs.declared.took.LogRefusal.{LogRefusal}
 use Rattle.vs_entries.specs.declared.took.LogRefusal.TheVariants.{BadLog, Memory}
-use Rattle.vs_entries.specs.declared.walk.Next.{Next}
-use Rattle.vs_entries.specs.declared.walk.Next.TheVariants.{Ended}
 use Rattle.vs_entries.specs.declared.walk.Walk.{Walk}
 use Rattle.vs_entries.proofs.WalkLemmas.{IsFront, stands_within, starts, walk_more, walk_new}
 
@@ -158,10 +156,10 @@ fault_not rules bytes given None h = tt
 fault_not rules bytes given (Some fault) h = absurd (h fault refl)
 
 -- the one at which a walk ended
-pub fault_found : (keyspace said : List ℕ) (schema : Schema) (bytes : List ℕ) (old new : Walk) (next : Next) (ended : Option Why) (why : Why) → said ≡ keyspace → ReadsTo (rules_of said schema) bytes old new next → next ≡ Ended ended → ended ≡ Some why →
+pub fault_found : (keyspace said : List ℕ) (schema : Schema) (bytes : List ℕ) (old new : Walk) (ended : Option Why) (why : Why) → said ≡ keyspace → ReadsEnd (rules_of said schema) bytes old new ended → ended ≡ Some why →
     KeepsFault (rules_of keyspace schema) bytes new.given (Some (record { offset = new.at; why = why }))
-fault_found keyspace said schema bytes old new next ended why same r n e =
-    let t = subst (λ z. ReadsTo (rules_of said schema) bytes old new (Ended z)) e (subst (λ z. ReadsTo (rules_of said schema) bytes old new z) n r) in
+fault_found keyspace said schema bytes old new ended why same r e =
+    let t = subst (λ z. ReadsEnd (rules_of said schema) bytes old new z) e r in
     subst (λ k. (new.given ≡ length (log_meant (rules_of k schema) bytes).entries) × ((log_meant (rules_of k schema) bytes).fault ≡ Some (new.at, why))) same (t.2 ∙ sym t.0, t.1)
 
 -- it stays, whatever bytes come

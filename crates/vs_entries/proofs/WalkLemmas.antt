@@ -1,6 +1,6 @@
 -- How a walk over a log's bytes stands for what they mean.
-use Rattle.std.proofs.Common.{◌≡◌, ◌≤◌, ◌<◌, ◌+◌, ℕ, Bool, true, false, List, [], ◌∷◌, ◌++◌, length, drop, Option, Some, None, Result, Ok, Err, refl, ap, sym, subst, ◌∙◌, arith, append-nil, append_assoc, length-append}
-use Rattle.std.specs.Prelude.{◌⊎◌}
+use Rattle.std.proofs.Common.{◌≡◌, ◌≤◌, ◌<◌, ◌+◌, ℕ, Bool, true, false, List, [], ◌∷◌, ◌++◌, length, drop, Option, Some, None, Result, Ok, Err, refl, ap, sym, subst, ◌∙◌, arith, append-nil, append_assoc, length-append, length-drop}
+use Rattle.std.specs.Prelude.{◌⊎◌, IsSomeAnd}
 use Rattle.std.proofs.lemmas.List.{append_cancel_left, drop-append-le}
 use Rattle.vs_base.specs.declared.change.Change.{Change}
 use Rattle.vs_base.specs.declared.Gtid.{Gtid}
@@ -16,15 +16,13 @@ use Rattle.vs_log.specs.Meaning.{at_place, has_magic, is_base_known, knows_base,
 use Rattle.vs_log.specs.Productions.{EntryEndsAt, StandsAt}
 use Rattle.vs_log.specs.Steps.{Reaches, next_state, open_gtid, result_with_past, with_past}
 use Rattle.vs_log.specs.Laws.{OpensOrEnds}
-use Rattle.vs_log.specs.Table.{Rules}
+use Rattle.vs_log.specs.Table.{Rules, step}
 use Rattle.vs_entries.specs.Laws.{LogLaws}
 use Rattle.vs_entries.specs.Pieces.{IsBehind}
-use Rattle.vs_entries.specs.Reading.{is_early, is_refused, place_of, state_of, with_entries}
-use Rattle.vs_entries.specs.Walks.{IsBegunAt, IsFresh, IsLeft, IsMoved, IsStuck, IsWalk, ReadsTo, Stands, TurnsTo, begun_after}
+use Rattle.vs_entries.specs.Reading.{IsFrontEvent, is_early, is_refused, place_of, state_of, with_entries}
+use Rattle.vs_entries.specs.Walks.{IsBegunAt, IsFresh, IsLeft, IsMoved, IsStuck, IsWalk, ReadsEnd, ReadsNext, Stands, begun_after}
 use Rattle.vs_entries.specs.declared.standing.Standing.{Standing}
 use Rattle.vs_entries.specs.declared.standing.Standing.TheVariants.{Front, Between, Named, Inside}
-use Rattle.vs_entries.specs.declared.walk.Next.{Next}
-use Rattle.vs_entries.specs.declared.walk.Next.TheVariants.{Gave, Ended}
 use Rattle.vs_entries.specs.declared.walk.Walk.{Walk}
 
 -- entries that were given stand in front of those of the state
@@ -62,6 +60,36 @@ fresh_stands laws rules bytes walk f h l = record {
     begun (Between first) h = tt
     begun (Named g size) h = absurd (cc)
     begun (Inside g size) h = absurd (cc)
+
+-- ---- the event at the front
+
+-- an event was taken
+pub moved : (rules : Rules Tables) (bytes rest e : List ℕ) (old new : Walk) (entries : List Entry) → rest ≡ drop old.at bytes → old.at ≤ length bytes → IsFrontEvent old.at rest e →
+    step rules (state_of old.progress) e ≡ Ok (with_entries entries (state_of new.progress)) → new.at ≡ old.at + length e → new.begun ≡ begun_after old.progress.standing old.at old.begun →
+    new.given ≡ old.given + length entries → IsMoved rules bytes old new entries
+moved rules bytes rest e old new entries is inside f h at begun given =
+    let there = subst (λ z. IsFrontEvent old.at z e) is f in
+    record {
+      next = rw there.held (rw (← there.bytes) (rw h refl));
+      place = at ∙ ap (λ n. old.at + n) there.size;
+      later = omega (arith, at, there.head);
+      within = omega (arith, at, there.within, length-drop old.at bytes, inside);
+      early = subst (λ n. n ≤ last_place) (sym at) there.early;
+      begun = begun;
+      given = given;
+    }
+
+-- and an entry ended
+pub moved_to_end : (rules : Rules Tables) (bytes rest e : List ℕ) (old new : Walk) (ended : Option Entry) → rest ≡ drop old.at bytes → old.at ≤ length bytes → IsFrontEvent old.at rest e →
+    IsSomeAnd ended (λ x. step rules (state_of old.progress) e ≡ Ok (with_entries (x ∷ []) (state_of new.progress))) → new.at ≡ old.at + length e → new.begun ≡ begun_after old.progress.standing old.at old.begun →
+    new.given ≡ old.given + 1 → IsSomeAnd ended (λ x. IsMoved rules bytes old new (x ∷ []))
+moved_to_end rules bytes rest e old new None is inside f h at begun given = absurd h
+moved_to_end rules bytes rest e old new (Some x) is inside f h at begun given = moved rules bytes rest e old new (x ∷ []) is inside f h at begun given
+
+-- it is refused
+pub stopped : (rules : Rules Tables) (at : ℕ) (s : State Tables) (rest e : List ℕ) (why : Option Why) → IsFrontEvent at rest e → IsSomeAnd why (λ w. step rules s e ≡ Err w) → next_state rules at s rest ≡ Err why
+stopped rules at s rest e None f h = absurd h
+stopped rules at s rest e (Some w) f h = rw f.held (rw (← f.bytes) (rw h refl))
 
 -- ---- one event more
 
@@ -151,7 +179,7 @@ given_at rules bytes old new e s begun (Some g) some (◌⊎◌.inr ends) =
     (begun_of rules bytes old.progress.standing old.progress.maps old.progress.changes old.begun g s.begun some))
 
 -- the entry that ends is the next one of the log
-pub gives : (laws : LogLaws) (rules : Rules Tables) (bytes : List ℕ) (old new : Walk) (e : Entry) → Stands rules bytes old → IsMoved rules bytes old new (e ∷ []) → ReadsTo rules bytes old new (Gave e)
+pub gives : (laws : LogLaws) (rules : Rules Tables) (bytes : List ℕ) (old new : Walk) (e : Entry) → Stands rules bytes old → IsMoved rules bytes old new (e ∷ []) → ReadsNext rules bytes old new e
 gives laws rules bytes old new e s m =
     let o = on laws rules bytes old new (e ∷ []) s m in
     let more = (laws.steps rules).entries bytes new.at _ o.reaches in
@@ -326,11 +354,13 @@ pub record Comes (rules : Rules Tables) (bytes : List ℕ) (old new : Walk) (to 
   pub given : is_early new.progress.standing ≡ true → new.given ≡ old.given
   pub stuck : IsStuck rules bytes old → IsStuck rules bytes new
 
-pub comes : (laws : LogLaws) (rules : Rules Tables) (bytes : List ℕ) (old now new : Walk) (next : Next) → Goes rules bytes old now → TurnsTo rules bytes now new (Some next) → Comes rules bytes old new (ReadsTo rules bytes old new next)
-comes laws rules bytes old now new (Gave e) g t =
-    let m = t.0 in
+-- the event that was taken ends an entry
+pub comes_to_entry : (laws : LogLaws) (rules : Rules Tables) (bytes : List ℕ) (old now new : Walk) (ended : Option Entry) → Goes rules bytes old now →
+    IsSomeAnd ended (λ x. IsMoved rules bytes now new (x ∷ [])) → is_early now.progress.standing ≡ false → Comes rules bytes old new (IsSomeAnd ended (λ x. ReadsNext rules bytes old new x))
+comes_to_entry laws rules bytes old now new None g m open_there = absurd m
+comes_to_entry laws rules bytes old now new (Some e) g m open_there =
     let r = gives laws rules bytes now new e g.stands m in
-    let late : is_early new.progress.standing ≡ false = stays_late laws rules bytes now new (e ∷ []) m t.1 in
+    let late : is_early new.progress.standing ≡ false = stays_late laws rules bytes now new (e ∷ []) m open_there in
     let never : is_early new.progress.standing ≡ true → ⊥ = λ h. (let k : true ≡ false = sym h ∙ late in absurd (cc)) in
     record {
       stands = stands_on laws rules bytes now new (e ∷ []) (omega arith) g.stands m;
@@ -340,16 +370,20 @@ comes laws rules bytes old now new (Gave e) g t =
       given = λ h. absurd (never h);
       stuck = λ s. absurd (not_moved rules bytes now new (e ∷ []) (g.stuck s) m);
     }
-comes laws rules bytes old now new (Ended why) g t =
-    subst (λ z. Comes rules bytes old z (ReadsTo rules bytes old z (Ended why))) (sym t.1)
+
+-- no event is taken any more
+pub comes_to_end : (laws : LogLaws) (rules : Rules Tables) (bytes : List ℕ) (old now new : Walk) (why : Option Why) → Goes rules bytes old now →
+    next_state rules now.at (state_of now.progress) (drop now.at bytes) ≡ Err why → new ≡ now → Comes rules bytes old new (ReadsEnd rules bytes old new why)
+comes_to_end laws rules bytes old now new why g h same =
+    subst (λ z. Comes rules bytes old z (ReadsEnd rules bytes old z why)) (sym same)
     (
-    let e = ends laws rules bytes now why g.stands t.0 in
+    let e = ends laws rules bytes now why g.stands h in
     record {
       stands = g.stands;
-      reads = (e.0 ∙ g.given, e.1, g.given, left_there laws rules bytes now why t.0);
+      reads = (e.0 ∙ g.given, e.1, g.given, left_there laws rules bytes now why h);
       later = g.later;
       early = g.early;
-      given = λ h. g.given;
+      given = λ k. g.given;
       stuck = g.stuck;
     })
 
@@ -446,11 +480,10 @@ front_short laws rules bytes walk s g l = go (has_magic bytes) refl where
   go true h = front_unmagic rules bytes walk s g ((laws.steps rules).short bytes h l).1
   go false h = front_none laws rules bytes walk s g h
 
-pub front_stopped : (laws : LogLaws) (rules : Rules Tables) (bytes : List ℕ) (first old new : Walk) (next : Next) (why : Option Why) (refused : Bool) → IsFront rules bytes first old → TurnsTo rules bytes old new (Some next) → next ≡ Ended why →
-    refused ≡ is_refused new.progress.standing why → IsWalk rules bytes new refused
-front_stopped laws rules bytes first old new next why refused f t is r =
-    let ended = rw is at t in
-    subst (λ z. IsWalk rules bytes new z) (sym r) (subst (λ z. IsWalk rules bytes z (is_refused z.progress.standing why)) (sym ended.1) (front_stops laws rules bytes first old why f ended.0))
+pub front_stopped : (laws : LogLaws) (rules : Rules Tables) (bytes : List ℕ) (first old new : Walk) (why : Option Why) (refused : Bool) → IsFront rules bytes first old →
+    next_state rules old.at (state_of old.progress) (drop old.at bytes) ≡ Err why → new ≡ old → refused ≡ is_refused new.progress.standing why → IsWalk rules bytes new refused
+front_stopped laws rules bytes first old new why refused f h same r =
+    subst (λ z. IsWalk rules bytes new z) (sym r) (subst (λ z. IsWalk rules bytes z (is_refused z.progress.standing why)) (sym same) (front_stops laws rules bytes first old why f h))
 
 -- ---- what a reader says of the base
 

@@ -1,5 +1,5 @@
 -- How what a reader has taken stands for a state of a log's table, and what its answers say.
-use Rattle.std.specs.Prelude.{◌≡◌, ◌≤◌, ◌+◌, ℕ, nat_lt, Bool, true, false, is_some, if◌then◌else◌, List, [], ◌∷◌, length, map, take, Option, Some, None, Result, Ok, Err}
+use Rattle.std.specs.Prelude.{◌≡◌, ◌≤◌, ◌+◌, ℕ, nat_lt, Bool, true, false, is_some, IsSomeAnd, if◌then◌else◌, List, [], ◌∷◌, length, map, take, Option, Result, Ok, Err}
 use Rattle.vs_base.specs.declared.change.Change.{Change}
 use Rattle.vs_base.specs.declared.Gtid.{Gtid}
 use Rattle.vs_base.specs.declared.Why.{Why}
@@ -27,6 +27,11 @@ use Rattle.vs_entries.specs.declared.standing.Standing.{Standing}
 use Rattle.vs_entries.specs.declared.standing.Standing.TheVariants.{Front, Between, Named, Inside}
 use Rattle.vs_entries.specs.declared.refusal.Refusal.{Refusal}
 use Rattle.vs_entries.specs.declared.refusal.Refusal.TheVariants.{Wrong, Memory}
+use Rattle.vs_entries.specs.declared.out.Out.{Out}
+use Rattle.vs_entries.specs.declared.out.Stop.{Stop}
+use Rattle.vs_entries.specs.declared.out.Stop.TheVariants as stop
+use Rattle.vs_entries.specs.declared.out.Turn.{Turn}
+use Rattle.vs_entries.specs.declared.out.Turn.TheVariants.{Goes, Ends}
 
 -- the answer is what is meant, unless memory ran out
 abbrev pub Answers : {A : Type 0} → Result A Refusal → Result A Why → Type 0
@@ -59,14 +64,20 @@ state_of p = record { base = p.base; entries = []; known = p.known; place = plac
 abbrev pub with_entries : List Entry → State Tables → State Tables
 with_entries entries s = record s { entries = entries }
 
--- what was meant to be taken was, and perhaps an entry ended; or all stayed as it was
-abbrev pub TakesEvent : Result (Option Entry) Refusal → Progress → Progress → Result (State Tables) Why → Type 0
-TakesEvent (Ok None) old new meant = meant ≡ Ok (state_of new)
-TakesEvent (Ok (Some e)) old new meant = meant ≡ Ok (with_entries (e ∷ []) (state_of new))
-TakesEvent (Err (Wrong why)) old new meant = (meant ≡ Err why) × (new ≡ old)
-TakesEvent (Err Memory) old new meant = new ≡ old
+-- What was meant to be taken was, and perhaps an entry ended; or all stayed as it was. The entry, or what is wrong, is in the `Out`.
+abbrev pub TakesTo : Result Turn Stop → Progress → Progress → Out → Result (State Tables) Why → Type 0
+TakesTo (Ok Goes) old new out meant = meant ≡ Ok (state_of new)
+TakesTo (Ok Ends) old new out meant = IsSomeAnd out.entry (λ e. meant ≡ Ok (with_entries (e ∷ []) (state_of new)))
+TakesTo (Err stop.Wrong) old new out meant = IsSomeAnd out.why (λ why. meant ≡ Err why) × (new ≡ old)
+TakesTo (Err stop.Memory) old new out meant = new ≡ old
 
 -- the same of an event that ends no entry
+abbrev pub MovesTo : Result (Unit {0}) Stop → Progress → Progress → Out → Result (State Tables) Why → Type 0
+MovesTo (Ok x) old new out meant = meant ≡ Ok (state_of new)
+MovesTo (Err stop.Wrong) old new out meant = IsSomeAnd out.why (λ why. meant ≡ Err why) × (new ≡ old)
+MovesTo (Err stop.Memory) old new out meant = new ≡ old
+
+-- the same, where what is wrong is in the answer
 abbrev pub Moves : Result (Unit {0}) Refusal → Progress → Progress → Result (State Tables) Why → Type 0
 Moves (Ok x) old new meant = meant ≡ Ok (state_of new)
 Moves (Err (Wrong why)) old new meant = (meant ≡ Err why) × (new ≡ old)

@@ -1,5 +1,5 @@
 -- Where a walk over the bytes of a log stands, and how it goes on.
-use Rattle.std.specs.Prelude.{◌≡◌, ◌≤◌, ◌<◌, ◌+◌, ◌⊎◌, ℕ, Bool, true, false, List, [], ◌∷◌, length, drop, Option, Some, None, Result, Ok, Err}
+use Rattle.std.specs.Prelude.{◌≡◌, ◌≤◌, ◌<◌, ◌+◌, ◌⊎◌, ℕ, Bool, true, false, List, [], ◌∷◌, length, drop, Option, Some, None, Result, Ok, Err, IsSomeAnd}
 use Rattle.vs_base.specs.declared.Why.{Why}
 use Rattle.vs_gtid.specs.declared.Entry.{Entry}
 use Rattle.vs_binlog.specs.Heads.{length_of}
@@ -13,6 +13,11 @@ use Rattle.vs_entries.specs.Pieces.{IsBehind}
 use Rattle.vs_entries.specs.Reading.{is_early, state_of, with_entries}
 use Rattle.vs_entries.specs.Windows.{Windowed}
 use Rattle.vs_entries.specs.declared.fault.Fault.{Fault}
+use Rattle.vs_entries.specs.declared.out.Out.{Out}
+use Rattle.vs_entries.specs.declared.out.Stop.{Stop}
+use Rattle.vs_entries.specs.declared.out.Stop.TheVariants as stop
+use Rattle.vs_entries.specs.declared.out.Turn.{Turn}
+use Rattle.vs_entries.specs.declared.out.Turn.TheVariants.{Goes, Ends}
 use Rattle.vs_entries.specs.declared.took.LogRefusal.{LogRefusal}
 use Rattle.vs_entries.specs.declared.took.LogRefusal.TheVariants.{BadLog, Memory}
 use Rattle.vs_entries.specs.declared.standing.Standing.{Standing}
@@ -58,16 +63,12 @@ pub record IsMoved (rules : Rules Tables) (bytes : List ℕ) (old new : Walk) (e
   pub begun : new.begun ≡ begun_after old.progress.standing old.at old.begun
   pub given : new.given ≡ old.given + length entries
 
--- what a turn over the bytes comes to: an event is taken, and perhaps an entry ends; or nothing whole is left, or it is refused
-abbrev pub TurnsTo : Rules Tables → List ℕ → Walk → Walk → Option Next → Type 0
-TurnsTo rules bytes old new None = IsMoved rules bytes old new []
-TurnsTo rules bytes old new (Some (Gave e)) = IsMoved rules bytes old new (e ∷ []) × (is_early old.progress.standing ≡ false)
-TurnsTo rules bytes old new (Some (Ended why)) = (next_state rules old.at (state_of old.progress) (drop old.at bytes) ≡ Err why) × (new ≡ old)
-
--- where memory ran out, all stayed as it was
-abbrev pub Turned : {E : Type 0} → Rules Tables → List ℕ → Walk → Walk → Result (Option Next) E → Type 0
-Turned rules bytes old new (Ok next) = TurnsTo rules bytes old new next
-Turned rules bytes old new (Err memory) = new ≡ old
+-- What a turn over the bytes comes to: an event is taken, and perhaps an entry ends; or nothing whole is left, or it is refused. The entry, or what is wrong, is in the `Out`. Where memory ran out, all stayed as it was.
+abbrev pub TurnsTo : Rules Tables → List ℕ → Walk → Walk → Out → Result Turn Stop → Type 0
+TurnsTo rules bytes old new out (Ok Goes) = IsMoved rules bytes old new []
+TurnsTo rules bytes old new out (Ok Ends) = IsSomeAnd out.entry (λ e. IsMoved rules bytes old new (e ∷ [])) × (is_early old.progress.standing ≡ false)
+TurnsTo rules bytes old new out (Err stop.Wrong) = (next_state rules old.at (state_of old.progress) (drop old.at bytes) ≡ Err out.why) × (new ≡ old)
+TurnsTo rules bytes old new out (Err stop.Memory) = new ≡ old
 
 -- what is wrong with the first event behind the format description that isn't passed over
 pub record IsStuck (rules : Rules Tables) (bytes : List ℕ) (walk : Walk) : Type 0 where
@@ -116,13 +117,18 @@ abbrev pub IsLeft : Option Why → List ℕ → Type 0
 IsLeft None rest = IsPart rest
 IsLeft (Some why) rest = Unit {0}
 
--- the entry that comes next, or that none does, and what is wrong there
-abbrev pub ReadsTo : Rules Tables → List ℕ → Walk → Walk → Next → Type 0
-ReadsTo rules bytes old new (Gave e) =
+-- this entry comes next
+abbrev pub ReadsNext : Rules Tables → List ℕ → Walk → Walk → Entry → Type 0
+ReadsNext rules bytes old new e =
     IsBehind old.given (log_meant rules bytes).entries e × StandsAt rules bytes e.gtid new.begun × EntryEndsAt rules bytes old.given new.at × (new.given ≡ old.given + 1)
-ReadsTo rules bytes old new (Ended why) =
+
+-- none comes, and this is wrong there
+abbrev pub ReadsEnd : Rules Tables → List ℕ → Walk → Walk → Option Why → Type 0
+ReadsEnd rules bytes old new why =
     (length (log_meant rules bytes).entries ≡ old.given) × ((log_meant rules bytes).fault ≡ at_place new.at why) × (new.given ≡ old.given) × IsLeft why (drop new.at bytes)
 
-abbrev pub ReadsEntry : {E : Type 0} → Rules Tables → List ℕ → Walk → Walk → Result Next E → Type 0
-ReadsEntry rules bytes old new (Ok next) = ReadsTo rules bytes old new next
-ReadsEntry rules bytes old new (Err memory) = new.given ≡ old.given
+-- which of the two it is; the entry, or what is wrong, is in the `Out`
+abbrev pub ReadsEntry : {E : Type 0} → Rules Tables → List ℕ → Walk → Walk → Out → Result Next E → Type 0
+ReadsEntry rules bytes old new out (Ok Gave) = IsSomeAnd out.entry (λ e. ReadsNext rules bytes old new e)
+ReadsEntry rules bytes old new out (Ok Ended) = ReadsEnd rules bytes old new out.why
+ReadsEntry rules bytes old new out (Err memory) = new.given ≡ old.given

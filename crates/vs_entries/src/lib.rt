@@ -11,6 +11,7 @@ mod fault;
 mod front;
 mod kind;
 mod laws;
+mod out;
 mod progress;
 mod query;
 mod reader;

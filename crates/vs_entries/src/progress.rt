@@ -1,5 +1,5 @@
 //! What the events of a log, from the first on, have come to.
-ghost use Rattle.std.specs.Prelude.{◌≡◌, ◌≤◌, ◌+◌, ◌++◌, ◌∷◌, [], IfOk, None, Ok, OnErr, OnOk, length, true};
+ghost use Rattle.std.specs.Prelude.{◌≡◌, ◌≤◌, ◌+◌, ◌++◌, IfOk, Ok, OnErr, OnOk, length, true};
 ghost use Rattle.vs_binlog.specs.Heads.{length_of};
 ghost use Rattle.vs_log.specs.Events.{last_place, limit, sort_of};
 ghost use Rattle.vs_log.specs.Meaning.{front, head_refusal};
@@ -10,6 +10,7 @@ use crate::body::{format_fault, named_gtid, read_base};
 use crate::event::{body_of, sort_in};
 use crate::front::LAST_PLACE;
 use crate::kind::StatementKind;
+use crate::out::{Out, Stop, Turn};
 use crate::query::read_statement;
 use crate::refusal::Refusal;
 use crate::row::{read_rows, refused};
@@ -56,14 +57,15 @@ fn append_changes(
 impl Progress {
     ghost use Rattle.vs_log.specs.States.Place.{Between, Front, Inside, Named};
     ghost use Rattle.vs_gtid.specs.declared.entry.Work.TheVariants.{Rows};
+    ghost use Rattle.vs_entries.specs.declared.out.Turn.TheVariants.{Goes};
     ghost use Rattle.vs_entries.specs.Reading.{
       Moves,
-      TakesEvent,
+      MovesTo,
+      TakesTo,
       any_rules,
       is_early,
       no_schema,
       state_of,
-      with_entries,
       with_gtid,
       with_later_query,
       with_previous,
@@ -100,18 +102,21 @@ impl Progress {
 
     /// The bytes that an event makes with the entry that is open, or alone where it is passed over.
     #[tactic(auto, unfolding(vs_log::specs::Table::bytes_with), using(crate::proofs::Lines::sum_with_counted))]
-    fn bytes_with(&self, event: &[u8]) -> u64
-        requires { 19 ≤ length event.now }
+    fn bytes_with(&self, event: &[u8], sort: Sort) -> u64
+        requires head { 19 ≤ length event.now }
+        requires kind { sort ≡ sort_of event.now }
         ensures { result ≡ bytes_with (state_of self.now).place event.now }
     {
         let length = read_head(event).length as u64;
-        match sort_in(event) {
+        match sort {
             Sort::PassedOver => length,
             _ => self.size() as u64 + length,
         }
     }
 
     /// What is wrong with an event of which not all bytes are there, by its head alone.
+    // Not inlined: a function makes room at its entry for all that is inlined into it.
+    #[inline(never)]
     #[tactic(auto, unfolding(vs_log::specs::Meaning::head_refusal))]
     pub fn head_fault(&self, rest: &[u8], at: usize) -> Option<Why>
         requires { at ≤ last_place }
@@ -122,7 +127,7 @@ impl Progress {
             Step::Bad { length } => return Some(Why::BadLength { length }),
             Step::Event(head) => head.length,
         };
-        let bytes = self.bytes_with(rest);
+        let bytes = self.bytes_with(rest, sort_in(rest));
         if bytes > LIMIT {
             return Some(Why::TooLarge { bytes });
         }
@@ -142,133 +147,199 @@ impl Progress {
         event: &[u8],
         keyspace: &[u8],
         schema: &Schema,
-    ) -> Result<Option<Entry>, Refusal>
+        out: &mut Out,
+    ) -> Result<Turn, Stop>
         requires { 19 ≤ length event.now }
-        ensures takes { TakesEvent result self.old self.new (step (rules_of keyspace.now schema.now) (state_of self.old) event.now) }
-        ensures early { is_early self.old.standing ≡ true → IfOk result (λ o. o ≡ None) }
+        ensures takes { TakesTo result self.old self.new out.new (step (rules_of keyspace.now schema.now) (state_of self.old) event.now) }
+        ensures early { is_early self.old.standing ≡ true → IfOk result (λ turn. turn ≡ Goes) }
     {
-        let bytes = self.bytes_with(event);
+        let sort = sort_in(event);
+        let bytes = self.bytes_with(event, sort);
         if bytes > LIMIT {
-            return Err(Refusal::Wrong(Why::TooLarge { bytes }));
+            out.why = Some(Why::TooLarge { bytes });
+            return Err(Stop::Wrong);
         }
         match self.standing {
             Standing::Front => {
-                self.take_first(event)?;
-                Ok(None)
+                self.take_first(event, sort, out)?;
+                Ok(Turn::Goes)
             }
             Standing::Between { first } => {
-                self.take_between(alloc, event, first)?;
-                Ok(None)
+                self.take_between(alloc, event, sort, first, out)?;
+                Ok(Turn::Goes)
             }
-            Standing::Named { gtid, bytes } => self.take_named(alloc, event, keyspace, gtid, bytes),
+            Standing::Named { gtid, bytes } => {
+                self.take_named(alloc, event, sort, keyspace, gtid, bytes, out)
+            }
             Standing::Inside { gtid, bytes } => {
-                self.take_inside(alloc, event, keyspace, schema, gtid, bytes)
+                self.take_inside(alloc, event, sort, keyspace, schema, gtid, bytes, out)
             }
         }
     }
 
     /// Takes the first event of a log.
+    #[inline(never)]
     #[tactic(auto, using(crate::proofs::Lines::line_front_other))]
-    fn take_first(&mut self, event: &[u8]) -> Result<(), Refusal>
-        requires { 19 ≤ length event.now }
-        ensures { Moves result self.old self.new (line any_rules (state_of self.old) event.now Front (sort_of event.now)) }
+    fn take_first(&mut self, event: &[u8], sort: Sort, out: &mut Out) -> Result<(), Stop>
+        requires head { 19 ≤ length event.now }
+        requires kind { sort ≡ sort_of event.now }
+        ensures { MovesTo result self.old self.new out.new (line any_rules (state_of self.old) event.now Front (sort_of event.now)) }
     {
-        match sort_in(event) {
+        match sort {
             Sort::FormatEvent => match format_fault(body_of(event)) {
-                Some(why) => Err(Refusal::Wrong(why)),
+                Some(why) => {
+                    out.why = Some(why);
+                    Err(Stop::Wrong)
+                }
                 None => {
                     self.standing = Standing::Between { first: true };
                     Ok(())
                 }
             },
-            _ => Err(Refusal::Wrong(Why::NoFormat)),
+            _ => {
+                out.why = Some(Why::NoFormat);
+                Err(Stop::Wrong)
+            }
         }
     }
 
     /// Takes an event between entries.
-    fn take_between(&mut self, alloc: Global, event: &[u8], first: bool) -> Result<(), Refusal>
-        requires { 19 ≤ length event.now }
-        ensures { Moves result self.old self.new (line any_rules (state_of self.old) event.now (Between first) (sort_of event.now)) }
+    fn take_between(
+        &mut self,
+        alloc: Global,
+        event: &[u8],
+        sort: Sort,
+        first: bool,
+        out: &mut Out,
+    ) -> Result<(), Stop>
+        requires head { 19 ≤ length event.now }
+        requires kind { sort ≡ sort_of event.now }
+        ensures { MovesTo result self.old self.new out.new (line any_rules (state_of self.old) event.now (Between first) (sort_of event.now)) }
     {
-        match sort_in(event) {
-            Sort::AnonymousEvent => Err(Refusal::Wrong(Why::Anonymous)),
+        match sort {
+            Sort::AnonymousEvent => {
+                out.why = Some(Why::Anonymous);
+                Err(Stop::Wrong)
+            }
             Sort::PassedOver => Ok(()),
-            Sort::PreviousEvent if first => self.take_base(alloc, event),
-            Sort::GtidEvent => self.take_gtid(event),
-            Sort::ForeignEvent => Err(Refusal::Wrong(Why::Unsupported {
-                kind: read_head(event).kind,
-            })),
-            _ => Err(Refusal::Wrong(Why::BadOrder {
-                kind: read_head(event).kind,
-            })),
+            Sort::PreviousEvent if first => match self.take_base(alloc, event) {
+                Ok(()) => Ok(()),
+                Err(Refusal::Wrong(why)) => {
+                    out.why = Some(why);
+                    Err(Stop::Wrong)
+                }
+                Err(Refusal::Memory) => Err(Stop::Memory),
+            },
+            Sort::GtidEvent => self.take_gtid(event, out),
+            Sort::ForeignEvent => {
+                let kind = read_head(event).kind;
+                out.why = Some(Why::Unsupported { kind });
+                Err(Stop::Wrong)
+            }
+            _ => {
+                let kind = read_head(event).kind;
+                out.why = Some(Why::BadOrder { kind });
+                Err(Stop::Wrong)
+            }
         }
     }
 
     /// Takes an event behind the GTID event of an entry.
+    #[inline(never)]
     #[tactic(auto, unfolding(vs_log::specs::Table::bytes_with), using(crate::proofs::Lines::sum_with_counted))]
     fn take_named(
         &mut self,
         alloc: Global,
         event: &[u8],
+        sort: Sort,
         keyspace: &[u8],
         gtid: Gtid,
         bytes: u32,
-    ) -> Result<Option<Entry>, Refusal>
+        out: &mut Out,
+    ) -> Result<Turn, Stop>
         requires head { 19 ≤ length event.now }
+        requires kind { sort ≡ sort_of event.now }
         requires size { bytes_with {M = Tables} (Named gtid bytes) event.now ≤ limit }
-        ensures { TakesEvent result self.old self.new (line (rules_of keyspace.now no_schema) (state_of self.old) event.now (Named gtid bytes) (sort_of event.now)) }
+        ensures { TakesTo result self.old self.new out.new (line (rules_of keyspace.now no_schema) (state_of self.old) event.now (Named gtid bytes) (sort_of event.now)) }
     {
-        match sort_in(event) {
-            Sort::AnonymousEvent => Err(Refusal::Wrong(Why::Anonymous)),
-            Sort::PassedOver => Ok(None),
-            Sort::QueryEvent => self.take_query(alloc, event, keyspace, gtid, bytes),
-            Sort::ForeignEvent => Err(Refusal::Wrong(Why::Unsupported {
-                kind: read_head(event).kind,
-            })),
-            _ => Err(Refusal::Wrong(Why::BadOrder {
-                kind: read_head(event).kind,
-            })),
+        match sort {
+            Sort::AnonymousEvent => {
+                out.why = Some(Why::Anonymous);
+                Err(Stop::Wrong)
+            }
+            Sort::PassedOver => Ok(Turn::Goes),
+            Sort::QueryEvent => self.take_query(alloc, event, keyspace, gtid, bytes, out),
+            Sort::ForeignEvent => {
+                let kind = read_head(event).kind;
+                out.why = Some(Why::Unsupported { kind });
+                Err(Stop::Wrong)
+            }
+            _ => {
+                let kind = read_head(event).kind;
+                out.why = Some(Why::BadOrder { kind });
+                Err(Stop::Wrong)
+            }
         }
     }
 
     /// Takes an event inside a transaction.
+    #[inline(never)]
     #[tactic(auto, unfolding(vs_log::specs::Table::bytes_with), using(crate::proofs::Lines::sum_with_counted))]
     fn take_inside(
         &mut self,
         alloc: Global,
         event: &[u8],
+        sort: Sort,
         keyspace: &[u8],
         schema: &Schema,
         gtid: Gtid,
         bytes: u32,
-    ) -> Result<Option<Entry>, Refusal>
+        out: &mut Out,
+    ) -> Result<Turn, Stop>
         requires head { 19 ≤ length event.now }
+        requires kind { sort ≡ sort_of event.now }
         requires size { bytes_with (Inside gtid bytes self.old.maps (Rows self.old.changes)) event.now ≤ limit }
-        ensures { TakesEvent result self.old self.new (line (rules_of keyspace.now schema.now) (state_of self.old) event.now (Inside gtid bytes self.old.maps (Rows self.old.changes)) (sort_of event.now)) }
+        ensures { TakesTo result self.old self.new out.new (line (rules_of keyspace.now schema.now) (state_of self.old) event.now (Inside gtid bytes self.old.maps (Rows self.old.changes)) (sort_of event.now)) }
     {
-        match sort_in(event) {
-            Sort::AnonymousEvent => Err(Refusal::Wrong(Why::Anonymous)),
-            Sort::PassedOver => Ok(None),
-            Sort::QueryEvent => self.take_later_query(alloc, event, keyspace, gtid, bytes),
-            Sort::XidEvent => self.take_xid(alloc, event, gtid),
-            Sort::MapEvent => {
-                self.take_table_map(event, keyspace, schema, gtid, bytes)?;
-                Ok(None)
+        match sort {
+            Sort::AnonymousEvent => {
+                out.why = Some(Why::Anonymous);
+                Err(Stop::Wrong)
             }
-            Sort::RowsEvent => {
-                self.take_rows(alloc, event, keyspace, gtid, bytes)?;
-                Ok(None)
+            Sort::PassedOver => Ok(Turn::Goes),
+            Sort::QueryEvent => self.take_later_query(alloc, event, keyspace, gtid, bytes, out),
+            Sort::XidEvent => self.take_xid(alloc, event, gtid, out),
+            Sort::MapEvent => match self.take_table_map(event, keyspace, schema, gtid, bytes) {
+                Ok(()) => Ok(Turn::Goes),
+                Err(Refusal::Wrong(why)) => {
+                    out.why = Some(why);
+                    Err(Stop::Wrong)
+                }
+                Err(Refusal::Memory) => Err(Stop::Memory),
+            },
+            Sort::RowsEvent => match self.take_rows(alloc, event, keyspace, gtid, bytes) {
+                Ok(()) => Ok(Turn::Goes),
+                Err(Refusal::Wrong(why)) => {
+                    out.why = Some(why);
+                    Err(Stop::Wrong)
+                }
+                Err(Refusal::Memory) => Err(Stop::Memory),
+            },
+            Sort::ForeignEvent => {
+                let kind = read_head(event).kind;
+                out.why = Some(Why::Unsupported { kind });
+                Err(Stop::Wrong)
             }
-            Sort::ForeignEvent => Err(Refusal::Wrong(Why::Unsupported {
-                kind: read_head(event).kind,
-            })),
-            _ => Err(Refusal::Wrong(Why::BadOrder {
-                kind: read_head(event).kind,
-            })),
+            _ => {
+                let kind = read_head(event).kind;
+                out.why = Some(Why::BadOrder { kind });
+                Err(Stop::Wrong)
+            }
         }
     }
 
     /// Takes a PREVIOUS_GTIDS event.
+    #[inline(never)]
     fn take_base(&mut self, alloc: Global, event: &[u8]) -> Result<(), Refusal>
         requires { 19 ≤ length event.now }
         ensures { Moves result self.old self.new (with_previous (state_of self.old) event.now) }
@@ -282,16 +353,20 @@ impl Progress {
     }
 
     /// Takes a GTID event, which begins an entry.
-    fn take_gtid(&mut self, event: &[u8]) -> Result<(), Refusal>
+    fn take_gtid(&mut self, event: &[u8], out: &mut Out) -> Result<(), Stop>
         requires { 19 ≤ length event.now }
-        ensures { Moves result self.old self.new (with_gtid (state_of self.old) event.now) }
+        ensures { MovesTo result self.old self.new out.new (with_gtid (state_of self.old) event.now) }
     {
         let gtid = match named_gtid(body_of(event)) {
             Ok(gtid) => gtid,
-            Err(why) => return Err(Refusal::Wrong(why)),
+            Err(why) => {
+                out.why = Some(why);
+                return Err(Stop::Wrong);
+            }
         };
         if self.known.contains(&gtid) {
-            return Err(Refusal::Wrong(Why::RepeatedGtid { gtid }));
+            out.why = Some(Why::RepeatedGtid { gtid });
+            return Err(Stop::Wrong);
         }
         match self.known.add(gtid) {
             Ok(()) => {
@@ -301,8 +376,11 @@ impl Progress {
                 };
                 Ok(())
             }
-            Err(GtidRefusal::TooManyIntervals) => Err(Refusal::Wrong(Why::TooManyIntervals)),
-            Err(_) => Err(Refusal::Memory),
+            Err(GtidRefusal::TooManyIntervals) => {
+                out.why = Some(Why::TooManyIntervals);
+                Err(Stop::Wrong)
+            }
+            Err(_) => Err(Stop::Memory),
         }
     }
 
@@ -314,13 +392,15 @@ impl Progress {
         keyspace: &[u8],
         gtid: Gtid,
         bytes: u32,
-    ) -> Result<Option<Entry>, Refusal>
+        out: &mut Out,
+    ) -> Result<Turn, Stop>
         requires head { 19 ≤ length event.now }
         requires size { bytes + length_of event.now ≤ limit }
-        ensures { TakesEvent result self.old self.new (with_query keyspace.now (state_of self.old) event.now gtid bytes) }
+        ensures { TakesTo result self.old self.new out.new (with_query keyspace.now (state_of self.old) event.now gtid bytes) }
     {
         let Some(told) = read_statement(body_of(event), keyspace) else {
-            return Err(Refusal::Wrong(Why::BadEvent { kind: 2 }));
+            out.why = Some(Why::BadEvent { kind: 2 });
+            return Err(Stop::Wrong);
         };
         match told.kind {
             StatementKind::Begin => {
@@ -330,16 +410,19 @@ impl Progress {
                     gtid,
                     bytes: bytes + read_head(event).length,
                 };
-                Ok(None)
+                Ok(Turn::Goes)
             }
-            StatementKind::Xa => Err(Refusal::Wrong(Why::UnsupportedStatement)),
+            StatementKind::Xa => {
+                out.why = Some(Why::UnsupportedStatement);
+                Err(Stop::Wrong)
+            }
             StatementKind::Ddl => {
                 let work = Work::Ddl(Text::from_bytes(alloc, told.text)?);
-                Ok(Some(self.end_entry(event, gtid, work)))
+                Ok(self.end_entry(event, gtid, work, out))
             }
-            StatementKind::Commit => Ok(Some(self.end_entry(event, gtid, Work::Other))),
-            StatementKind::Savepoint => Ok(Some(self.end_entry(event, gtid, Work::Other))),
-            StatementKind::Other => Ok(Some(self.end_entry(event, gtid, Work::Other))),
+            StatementKind::Commit => Ok(self.end_entry(event, gtid, Work::Other, out)),
+            StatementKind::Savepoint => Ok(self.end_entry(event, gtid, Work::Other, out)),
+            StatementKind::Other => Ok(self.end_entry(event, gtid, Work::Other, out)),
         }
     }
 
@@ -351,25 +434,33 @@ impl Progress {
         keyspace: &[u8],
         gtid: Gtid,
         bytes: u32,
-    ) -> Result<Option<Entry>, Refusal>
+        out: &mut Out,
+    ) -> Result<Turn, Stop>
         requires head { 19 ≤ length event.now }
         requires size { bytes + length_of event.now ≤ limit }
-        ensures { TakesEvent result self.old self.new (with_later_query keyspace.now (state_of self.old) event.now gtid bytes self.old.maps self.old.changes) }
+        ensures { TakesTo result self.old self.new out.new (with_later_query keyspace.now (state_of self.old) event.now gtid bytes self.old.maps self.old.changes) }
     {
         let Some(told) = read_statement(body_of(event), keyspace) else {
-            return Err(Refusal::Wrong(Why::BadEvent { kind: 2 }));
+            out.why = Some(Why::BadEvent { kind: 2 });
+            return Err(Stop::Wrong);
         };
         match told.kind {
-            StatementKind::Commit => Ok(Some(self.end_transaction(alloc, event, gtid))),
+            StatementKind::Commit => Ok(self.end_transaction(alloc, event, gtid, out)),
             StatementKind::Savepoint => {
                 self.standing = Standing::Inside {
                     gtid,
                     bytes: bytes + read_head(event).length,
                 };
-                Ok(None)
+                Ok(Turn::Goes)
             }
-            StatementKind::Begin => Err(Refusal::Wrong(Why::NestedBegin)),
-            _ => Err(Refusal::Wrong(Why::UnsupportedStatement)),
+            StatementKind::Begin => {
+                out.why = Some(Why::NestedBegin);
+                Err(Stop::Wrong)
+            }
+            _ => {
+                out.why = Some(Why::UnsupportedStatement);
+                Err(Stop::Wrong)
+            }
         }
     }
 
@@ -379,14 +470,16 @@ impl Progress {
         alloc: Global,
         event: &[u8],
         gtid: Gtid,
-    ) -> Result<Option<Entry>, Refusal>
+        out: &mut Out,
+    ) -> Result<Turn, Stop>
         requires { 19 ≤ length event.now }
-        ensures { TakesEvent result self.old self.new (with_xid (state_of self.old) event.now gtid self.old.changes) }
+        ensures { TakesTo result self.old self.new out.new (with_xid (state_of self.old) event.now gtid self.old.changes) }
     {
         if body_of(event).len() < 8 {
-            return Err(Refusal::Wrong(Why::BadEvent { kind: 16 }));
+            out.why = Some(Why::BadEvent { kind: 16 });
+            return Err(Stop::Wrong);
         }
-        Ok(Some(self.end_transaction(alloc, event, gtid)))
+        Ok(self.end_transaction(alloc, event, gtid, out))
     }
 
     /// Takes a table map.
@@ -439,24 +532,31 @@ impl Progress {
     }
 
     /// Ends the open transaction with its last event.
-    fn end_transaction(&mut self, alloc: Global, event: &[u8], gtid: Gtid) -> Entry
+    fn end_transaction(&mut self, alloc: Global, event: &[u8], gtid: Gtid, out: &mut Out) -> Turn
         requires { 19 ≤ length event.now }
-        ensures { ended (state_of self.old) event.now gtid (Rows self.old.changes) ≡ with_entries (result ∷ []) (state_of self.new) }
+        ensures { TakesTo (Ok result) self.old self.new out.new (Ok (ended (state_of self.old) event.now gtid (Rows self.old.changes))) }
     {
         let changes = replace(&mut self.changes, List::new(alloc));
-        self.end_entry(event, gtid, Work::Rows(changes))
+        self.standing = Standing::Between { first: false };
+        out.entry = Some(Entry {
+            gtid,
+            time: read_head(event).time,
+            work: Work::Rows(changes),
+        });
+        Turn::Ends
     }
 
     /// Ends the open entry with its last event.
-    fn end_entry(&mut self, event: &[u8], gtid: Gtid, work: Work) -> Entry
+    fn end_entry(&mut self, event: &[u8], gtid: Gtid, work: Work, out: &mut Out) -> Turn
         requires { 19 ≤ length event.now }
-        ensures { ended (state_of self.old) event.now gtid work ≡ with_entries (result ∷ []) (state_of self.new) }
+        ensures { TakesTo (Ok result) self.old self.new out.new (Ok (ended (state_of self.old) event.now gtid work)) }
     {
         self.standing = Standing::Between { first: false };
-        Entry {
+        out.entry = Some(Entry {
             gtid,
             time: read_head(event).time,
             work,
-        }
+        });
+        Turn::Ends
     }
 }

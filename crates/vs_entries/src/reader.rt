@@ -4,6 +4,7 @@ ghost use Rattle.vs_entries.specs.Pieces.{GivesEntry, KeepsFew, fresh, log_fed, 
 
 use crate::fault::{Fault, tell};
 use crate::laws::laws;
+use crate::out::Out;
 use crate::took::{LogRefusal, Took};
 use crate::walk::{Next, Walk, begins_as_log};
 use crate::window::Window;
@@ -123,26 +124,39 @@ impl Reader {
                 return Ok(Took::More);
             }
         }
+        let mut out = Out::new();
         match self.walk.read_entry(
             self.alloc,
             &self.window,
             self.keyspace.as_bytes(),
             &self.schema,
+            &mut out,
         ) {
-            Ok(Next::Gave(entry)) => Ok(Took::Entry {
-                entry,
-                at: self.walk.begun as u64,
-                end: self.walk.at as u64,
-            }),
-            Ok(Next::Ended(None)) => Ok(Took::More),
-            Ok(Next::Ended(Some(why))) => {
-                let fault = Fault {
-                    offset: self.walk.at as u64,
-                    why,
-                };
-                let refusal = tell(self.alloc, &fault, &mut self.spent);
-                self.fault = Some(fault);
-                Err(refusal)
+            Ok(Next::Gave) => {
+                let Out { entry, .. } = out;
+                match entry {
+                    Some(entry) => Ok(Took::Entry {
+                        entry,
+                        at: self.walk.begun as u64,
+                        end: self.walk.at as u64,
+                    }),
+                    None => unreachable!(),
+                }
+            }
+            Ok(Next::Ended) => {
+                let Out { why, .. } = out;
+                match why {
+                    None => Ok(Took::More),
+                    Some(why) => {
+                        let fault = Fault {
+                            offset: self.walk.at as u64,
+                            why,
+                        };
+                        let refusal = tell(self.alloc, &fault, &mut self.spent);
+                        self.fault = Some(fault);
+                        Err(refusal)
+                    }
+                }
             }
             Err(_) => {
                 self.spent = true;

@@ -16,6 +16,7 @@ pub enum Standing {
 impl Standing {
     ghost use Rattle.std.specs.Prelude.{◌≡◌};
     ghost use Rattle.vs_entries.specs.Reading.{is_early, is_refused};
+    ghost use Rattle.vs_entries.specs.Walks.{begun_after};
 
     /// Whether no event stood yet that tells whether the log has a base.
     pub fn is_early(&self) -> bool
@@ -26,6 +27,19 @@ impl Standing {
             Standing::Between { first } => *first,
             Standing::Named { .. } => false,
             Standing::Inside { .. } => false,
+        }
+    }
+
+    /// The place of the GTID event of the entry that is open behind the event at a place; or that
+    /// place, where none is open before.
+    pub fn begun_after(&self, at: usize, begun: usize) -> usize
+        ensures { result ≡ begun_after self.now at begun }
+    {
+        match self {
+            Standing::Front => at,
+            Standing::Between { .. } => at,
+            Standing::Named { .. } => begun,
+            Standing::Inside { .. } => begun,
         }
     }
 

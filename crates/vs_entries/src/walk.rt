@@ -5,13 +5,11 @@ ghost use Rattle.vs_log.specs.Meaning.{has_magic};
 
 use crate::front::front_event;
 use crate::laws::laws;
+use crate::out::{Out, Stop, Turn};
 use crate::progress::Progress;
-use crate::refusal::Refusal;
-use crate::standing::Standing;
 use crate::window::Window;
 use std::alloc::{AllocError, Global};
-use vs_base::{OutOfMemory, Why};
-use vs_journal::Entry;
+use vs_base::OutOfMemory;
 use vs_schema::Schema;
 
 /// The bytes with which a log begins.
@@ -30,17 +28,17 @@ pub struct Walk {
 }
 
 /// What a walk comes to.
-#[derive(Debug, Drop)]
+#[derive(Debug, Clone, Copy)]
 pub enum Next {
-    /// An entry ends.
-    Gave(Entry),
-    /// No whole event is left, or the next one is at fault.
-    Ended(Option<Why>),
+    /// An entry ends: it is in the `Out`.
+    Gave,
+    /// No whole event is left, or what is wrong with the next one is in the `Out`.
+    Ended,
 }
 
 impl Walk {
     ghost use Rattle.vs_entries.specs.Reading.{is_early};
-    ghost use Rattle.vs_entries.specs.Walks.{IsBack, IsFresh, IsStuck, IsWalk, ReadsEntry, Stands, Turned};
+    ghost use Rattle.vs_entries.specs.Walks.{IsBack, IsFresh, IsStuck, IsWalk, ReadsEntry, Stands, TurnsTo};
     ghost use Rattle.vs_entries.specs.Rules.{rules_of};
 
     /// A walk that stands behind the magic.
@@ -55,45 +53,42 @@ impl Walk {
         }
     }
 
-    /// Takes the next event of the bytes, if it is whole.
+    /// Takes the next event of the bytes, if it is whole. It stops where none is, too.
     pub fn take_turn(
         &mut self,
         alloc: Global,
         window: &Window,
         keyspace: &[u8],
         schema: &Schema,
-    ) -> Result<Option<Next>, OutOfMemory>
+        out: &mut Out,
+    ) -> Result<Turn, Stop>
         requires from { window.now.from ≤ self.old.at }
         requires place { self.old.at ≤ length window.now.bytes }
         requires early { self.old.at ≤ last_place }
         requires few { self.old.given ≤ self.old.at }
-        ensures { Turned (rules_of keyspace.now schema.now) window.now.bytes self.old self.new result }
+        ensures { TurnsTo (rules_of keyspace.now schema.now) window.now.bytes self.old self.new out.new result }
     {
         let at = self.at;
         let rest = window.rest(at);
         let Some(event) = front_event(rest, at) else {
-            return Ok(Some(Next::Ended(self.progress.head_fault(rest, at))));
+            out.why = self.progress.head_fault(rest, at);
+            return Err(Stop::Wrong);
         };
-        let begun = match self.progress.standing {
-            Standing::Front => at,
-            Standing::Between { .. } => at,
-            Standing::Named { .. } => self.begun,
-            Standing::Inside { .. } => self.begun,
-        };
-        match self.progress.take(alloc, event, keyspace, schema) {
-            Ok(ended) => {
+        let begun = self.progress.standing.begun_after(at, self.begun);
+        match self.progress.take(alloc, event, keyspace, schema, out) {
+            Ok(Turn::Goes) => {
                 self.begun = begun;
                 self.at = at + event.len();
-                match ended {
-                    None => Ok(None),
-                    Some(entry) => {
-                        self.given += 1;
-                        Ok(Some(Next::Gave(entry)))
-                    }
-                }
+                Ok(Turn::Goes)
             }
-            Err(Refusal::Wrong(why)) => Ok(Some(Next::Ended(Some(why)))),
-            Err(Refusal::Memory) => Err(AllocError),
+            Ok(Turn::Ends) => {
+                self.begun = begun;
+                self.at = at + event.len();
+                self.given += 1;
+                Ok(Turn::Ends)
+            }
+            Err(Stop::Wrong) => Err(Stop::Wrong),
+            Err(Stop::Memory) => Err(Stop::Memory),
         }
     }
 
@@ -104,11 +99,12 @@ impl Walk {
         window: &Window,
         keyspace: &[u8],
         schema: &Schema,
+        out: &mut Out,
     ) -> Result<Next, OutOfMemory>
         requires from { window.now.from ≤ self.old.at }
         requires stands { Stands (rules_of keyspace.now schema.now) window.now.bytes self.old }
         ensures stands { Stands (rules_of keyspace.now schema.now) window.now.bytes self.new }
-        ensures reads { ReadsEntry (rules_of keyspace.now schema.now) window.now.bytes self.old self.new result }
+        ensures reads { ReadsEntry (rules_of keyspace.now schema.now) window.now.bytes self.old self.new out.new result }
         ensures early { is_early self.new.progress.standing ≡ true → is_early self.old.progress.standing ≡ true }
         ensures given { is_early self.new.progress.standing ≡ true → self.new.given ≡ self.old.given }
         ensures later { self.old.at ≤ self.new.at }
@@ -116,10 +112,11 @@ impl Walk {
     {
         laws();
         'events: loop {
-            match self.take_turn(alloc, window, keyspace, schema) {
-                Ok(None) => {}
-                Ok(Some(next)) => return Ok(next),
-                Err(error) => return Err(error),
+            match self.take_turn(alloc, window, keyspace, schema, out) {
+                Ok(Turn::Goes) => {}
+                Ok(Turn::Ends) => return Ok(Next::Gave),
+                Err(Stop::Wrong) => return Ok(Next::Ended),
+                Err(Stop::Memory) => return Err(AllocError),
             }
         }
     }
@@ -156,20 +153,21 @@ impl Walk {
         let at = self.at;
         let begun = self.begun;
         let standing = self.progress.standing;
+        let mut out = Out::new();
         'events: loop {
-            match self.take_turn(alloc, window, keyspace, schema) {
-                Ok(None) => {
+            match self.take_turn(alloc, window, keyspace, schema, &mut out) {
+                Ok(Turn::Goes) => {
                     if !self.progress.standing.is_early() {
                         return Ok(false);
                     }
                 }
-                Ok(Some(Next::Gave(_))) => unreachable!(),
-                Ok(Some(Next::Ended(why))) => return Ok(self.progress.standing.is_refused(&why)),
-                Err(error) => {
+                Ok(Turn::Ends) => unreachable!(),
+                Err(Stop::Wrong) => return Ok(self.progress.standing.is_refused(&out.why)),
+                Err(Stop::Memory) => {
                     self.at = at;
                     self.begun = begun;
                     self.progress.standing = standing;
-                    return Err(error);
+                    return Err(AllocError);
                 }
             }
         }

@@ -34,25 +34,26 @@ read_entry-requires-clause-stands c =
 pub invariant_of-self : goal.invariant_of-self
 invariant_of-self c = c.self.invariant
 
-pub invariant_of-self-in-Ok-Gave : goal.invariant_of-self-in-Ok-Gave
-invariant_of-self-in-Ok-Gave c =
+pub invariant_of-self-in-Some-entry : goal.invariant_of-self-in-Some-entry
+invariant_of-self-in-Some-entry c =
     let n = c.in-Ok-Gave.ensures in
     record {
       over = over_read _ _ _ c.self.inside.window c.self.inside.walk _ c.self.inside.refused c.as_bytes.ensures c.self.invariant.over n.stands n.early n.given n.stuck n.later;
       fault = fault_not _ _ _ _ c.in_default.not-Some;
     }
 
-pub invariant_of-self-in-Ok-Ended-Some : goal.invariant_of-self-in-Ok-Ended-Some
-invariant_of-self-in-Ok-Ended-Some c =
-    let n = c.in-Ok-Ended-Some.ensures in
+pub invariant_of-self-in-Some-why : goal.invariant_of-self-in-Some-why
+invariant_of-self-in-Some-why c =
+    let n = c.in-Ok-Ended.ensures in
+    let reads = rw c.in-Ok-Ended.field-0-is at n.reads in
     record {
       over = over_read _ _ _ c.self.inside.window c.self.inside.walk _ c.self.inside.refused c.as_bytes.ensures c.self.invariant.over n.stands n.early n.given n.stuck n.later;
-      fault = fault_found _ _ _ _ c.self.inside.walk c.read_entry.new.self c.in-Ok-Ended-Some.field-0 c.in-Ok-Ended-Some.field-0-0 c.in-Ok-Ended-Some.why c.as_bytes.ensures n.reads c.in-Ok-Ended-Some.field-0-is c.in-Ok-Ended-Some.field-0-0-is;
+      fault = fault_found _ _ _ _ c.self.inside.walk c.read_entry.new.self c.read_entry.new.out.why c.in-Some-why.why c.as_bytes.ensures reads c.in-Some-why.is;
     }
 
-pub invariant_of-self-in-Ok-Ended-None : goal.invariant_of-self-in-Ok-Ended-None
-invariant_of-self-in-Ok-Ended-None c =
-    let n = c.in-Ok-Ended-None.ensures in
+pub invariant_of-self-in-None-why : goal.invariant_of-self-in-None-why
+invariant_of-self-in-None-why c =
+    let n = c.in-Ok-Ended.ensures in
     record {
       over = over_read _ _ _ c.self.inside.window c.self.inside.walk _ c.self.inside.refused c.as_bytes.ensures c.self.invariant.over n.stands n.early n.given n.stuck n.later;
       fault = fault_not _ _ _ _ c.in_default.not-Some;

@@ -1,5 +1,4 @@
 use Rattle.std.proofs.Common.{ap, sym, ◌∙◌, arith}
-use Rattle.vs_entries.specs.Reading.{is_refused}
 use Rattle.vs_entries.proofs.WalkLemmas.{front_ends, front_none, front_on, front_short, front_starts, front_stopped}
 use Rattle.std.specs.Prelude.{◌⊎◌}
 use Rattle.vs_log.specs.Meaning.{has_magic}
@@ -21,11 +20,12 @@ events-init c =
     ])
 
 pub returns-then-not-is_early-clause-ok : goal.returns-then-not-is_early-clause-ok
-returns-then-not-is_early-clause-ok c = front_ends c.laws.ensures _ _ _ c.events.self c.take_turn.new.self c.events.invariant (rw c.in-Ok-None.field-0-is at c.in-Ok-None.ensures) (sym c.is_early.ensures ∙ c.if-not-is_early.true)
+returns-then-not-is_early-clause-ok c = front_ends c.laws.ensures _ _ _ c.events.self c.take_turn.new.self c.events.invariant (rw c.in-Ok-Goes.field-0-is at c.in-Ok-Goes.ensures) (sym c.is_early.ensures ∙ c.if-not-is_early.true)
 
 pub events-preserved : goal.events-preserved
-events-preserved c = front_on c.laws.ensures _ _ _ c.events.self c.take_turn.new.self c.events.invariant (rw c.in-Ok-None.field-0-is at c.in-Ok-None.ensures) (sym c.is_early.ensures ∙ c.if-not-is_early.false)
+events-preserved c = front_on c.laws.ensures _ _ _ c.events.self c.take_turn.new.self c.events.invariant (rw c.in-Ok-Goes.field-0-is at c.in-Ok-Goes.ensures) (sym c.is_early.ensures ∙ c.if-not-is_early.false)
 
-pub returns-in-Ok-Some-Ended-clause-ok : goal.returns-in-Ok-Some-Ended-clause-ok
-returns-in-Ok-Some-Ended-clause-ok c =
-    front_stopped c.laws.ensures _ _ _ c.events.self c.take_turn.new.self c.in-Ok-Some-Ended.field-0-0 c.in-Ok-Some-Ended.why c.is_refused.result c.events.invariant (rw c.in-Ok-Some-Ended.field-0-is at c.in-Ok-Some-Ended.ensures) c.in-Ok-Some-Ended.field-0-0-is (c.is_refused.ensures ∙ ap (λ w. is_refused c.take_turn.new.self.progress.standing w) c.in-Ok-Some-Ended.why-is)
+pub returns-in-Err-Wrong-clause-ok : goal.returns-in-Err-Wrong-clause-ok
+returns-in-Err-Wrong-clause-ok c =
+    let t = rw c.in-Err-Wrong.field-0-is at c.in-Err-Wrong.ensures in
+    front_stopped c.laws.ensures _ _ _ c.events.self c.take_turn.new.self c.take_turn.new.out.why c.is_refused.result c.events.invariant t.0 t.1 c.is_refused.ensures
