@@ -8,6 +8,7 @@ pub mod MissingLemmas
 pub mod Order
 pub mod PrintedLemmas
 pub mod ReadingLemmas
+pub mod SameJournals
 pub mod ScanLemmas
 pub mod SetTextComplete
 pub mod SetTextItems

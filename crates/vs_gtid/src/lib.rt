@@ -12,6 +12,7 @@ mod merge;
 mod parse;
 mod part;
 mod refusal;
+mod same;
 mod scan;
 mod set;
 mod span;
