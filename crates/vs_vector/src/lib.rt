@@ -1,0 +1,12 @@
+//! The vector of a stream: how far each shard has come.
+#![tactic(auto)]
+
+mod message;
+mod place;
+mod refusal;
+mod vector;
+
+pub use place::{Place, ShardAt};
+pub use refusal::VectorRefusal;
+pub use vector::Vector;
+pub use vs_base::OutOfMemory;
