@@ -1,0 +1,2 @@
+pub mod VectorLemmas
+pub mod EntryLemmas

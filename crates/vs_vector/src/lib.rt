@@ -1,9 +1,11 @@
 //! The vector of a stream: how far each shard has come.
 #![tactic(auto)]
 
+mod entries;
 mod message;
 mod place;
 mod refusal;
+mod replace;
 mod vector;
 
 pub use place::{Place, ShardAt};

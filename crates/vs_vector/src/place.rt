@@ -1,5 +1,6 @@
 ghost use Rattle.std.specs.Prelude.{◌≡◌, ◌≤◌, ◌<◌, ◌⊎◌, IfErr, IfOk, OnErr, OnOk, length};
 ghost use Rattle.vs_gtid.specs.Joins.{added};
+ghost use Rattle.vs_gtid.specs.Positions.{IsPosition};
 ghost use Rattle.vs_vector.specs.Changes.{limited_place, place_with};
 ghost use Rattle.vs_vector.specs.Places.{IsLawfulPlace, entry_place, place_position};
 
@@ -61,6 +62,7 @@ impl ShardAt {
         ensures ok { OnOk result (limited_place (place_with (entry_place self.old) gtid) ≡ Ok (entry_place self.new)) }
         ensures unchanged { OnErr result (self.new ≡ self.old) }
         ensures err { IfErr result (λ e. (e ≡ VectorRefusal.Memory) ⊎ (limited_place (place_with (entry_place self.old) gtid) ≡ Err e)) }
+        ensures lawful { OnOk result (IsLawfulPlace (entry_place self.new)) }
     {
         match &mut self.start {
             Place::At(set) => add_to(set, gtid),
@@ -81,6 +83,7 @@ fn add_to(set: &mut GtidSet, gtid: Gtid) -> Result<(), VectorRefusal>
     ensures few { OnOk result (length (added set.old gtid) ≤ 1024) }
     ensures unchanged { OnErr result (set.new ≡ set.old) }
     ensures err { IfErr result (λ e. (e ≡ VectorRefusal.Memory) ⊎ ((e ≡ VectorRefusal.TooManyIntervals) × (1024 < length (added set.old gtid)))) }
+    ensures position { IsPosition set.new }
 {
     match set.add(gtid) {
         Ok(()) => Ok(()),
