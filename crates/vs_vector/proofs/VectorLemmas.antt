@@ -1,6 +1,7 @@
 -- Vectors under their changes.
 use Rattle.std.proofs.Common.{◌≡◌, ℕ, suc, ◌+◌, ◌<◌, ◌≤◌, ◌||◌, ◌&&◌, Bool, true, false, not, List, [], ◌∷◌, ◌++◌, map, filter, length, Option, Some, None, is_some, refl, ap, sym, subst, ◌∙◌, if◌then◌else◌, true≢false, arith, append_assoc, length-append}
 use Rattle.std.specs.List.{find, list_any, AllByRecursion}
+use Rattle.std.specs.Option.{unwrap_or}
 use Rattle.std.proofs.lemmas.Bool.{and_parts}
 use Rattle.std.proofs.lemmas.List.{map-append}
 use Rattle.std.proofs.lemmas.List.Folds.{list_any-append}
@@ -23,6 +24,9 @@ not_true false e = refl
 
 not_false : (x : Bool) → x ≡ false → not x ≡ true
 not_false x e = ap not e
+
+same_some : (p q : Place) → Some p ≡ Some q → p ≡ q
+same_some p q e = ap (λ o. unwrap_or o p) e
 
 or_parts : (x y : Bool) → (x || y) ≡ false → (x ≡ false) × (y ≡ false)
 or_parts true y e = absurd (true≢false e)
@@ -188,3 +192,12 @@ changed-is (slot ∷ v) s p differ =
         (slot.0, if x then p else slot.1) ∷ map (changed s p) v ≡ (if x then (slot.0, p) ∷ v else slot ∷ moved v s p)
     by true e here on = ap (λ l. (slot.0, p) ∷ l) (here (same_name-is slot.0 s e))
     by false e here on = ap (λ l. slot ∷ l) on
+
+-- the place that is there, put there anew, changes nothing
+pub moved-same : (v : Vector) (s : ShardName) (p : Place) → place_of v s ≡ Some p → moved v s p ≡ v
+moved-same [] s p there = refl
+moved-same (slot ∷ v) s p there = by (same_name slot.0 s) there (λ h. moved-same v s p h)
+  where
+    by : (x : Bool) → (if x then Some slot.1 else place_of v s) ≡ Some p → (place_of v s ≡ Some p → moved v s p ≡ v) → (if x then (slot.0, p) ∷ v else slot ∷ moved v s p) ≡ slot ∷ v
+    by true h on = ap (λ q. (slot.0, q) ∷ v) (sym (same_some slot.1 p h))
+    by false h on = ap (λ l. slot ∷ l) (on h)

@@ -1,9 +1,9 @@
 //! A vector as a message.
-ghost use Rattle.std.specs.Prelude.{◌≡◌, IfOk};
+ghost use Rattle.std.specs.Prelude.{◌≡◌, IfOk, if◌then◌else◌};
 ghost use Rattle.vs_gtid.specs.Vectors.{moved};
 ghost use Rattle.vs_vector.specs.Messages.{last_key_of, row_of, shard_gtid_of, vgtid_of};
 ghost use Rattle.vs_vector.specs.Places.{entry_place};
-ghost use Rattle.vs_base.specs.Rows.{cell_length};
+ghost use Rattle.vs_base.specs.Names.{same_name};
 ghost use Rattle.vs_gtid.specs.Text.{position_text};
 
 use crate::{OutOfMemory, Place, ShardAt, Vector};
@@ -77,6 +77,18 @@ fn shard_gtid(alloc: Global, name: &ShardName, at: &ShardAt) -> Result<ShardGtid
     })
 }
 
+/// The entry of a shard of a vector in which the name has another one.
+fn entry_for<'a>(
+    name: &ShardName,
+    at: &'a ShardAt,
+    shard: &ShardName,
+    entry: &'a ShardAt,
+) -> &'a ShardAt
+    ensures { entry_place result.now ≡ (if same_name shard.now name.now then entry_place at.now else entry_place entry.now) }
+{
+    if shard.is_same(name) { at } else { entry }
+}
+
 impl Vector {
     /// The vector as a message.
     pub fn message(&self, alloc: Global) -> Result<VGtid, OutOfMemory>
@@ -102,7 +114,7 @@ impl Vector {
     {
         let mut shards = Vec::with_capacity(alloc, self.len())?;
         for (shard, entry) in self.entries.iter() {
-            let entry = if shard.is_same(name) { at } else { entry };
+            let entry = entry_for(name, at, shard, entry);
             shards.push(shard_gtid(alloc, shard, entry)?)?;
         }
         Ok(VGtid {

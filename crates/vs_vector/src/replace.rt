@@ -1,9 +1,10 @@
 //! Shards that leave a vector, and others that come in.
 ghost use Rattle.std.specs.List.{filter, find};
-ghost use Rattle.std.specs.Prelude.{◌≡◌, ◌≤◌, ◌⊎◌, ◌+◌, ◌++◌, [], IfErr, IfOk, Ok, Err, OnOk, length, map, not, option_copied, true};
+ghost use Rattle.std.specs.Prelude.{◌≡◌, ◌≤◌, ◌<◌, ◌⊎◌, ◌+◌, ◌++◌, ◌∷◌, [], IfErr, IfOk, None, Ok, Err, OnOk, false, length, map, not, option_copied, true};
 ghost use Rattle.vs_base.specs.Names.{names_differ};
 ghost use Rattle.vs_gtid.specs.Vectors.{begun_at, is_in, names, stands};
 ghost use Rattle.vs_vector.specs.Changes.{IsMade, replaced_in};
+ghost use Rattle.vs_vector.specs.Places.{entry_place};
 
 use crate::vector::MOST_SHARDS;
 use crate::{OutOfMemory, Place, ShardAt, Vector, VectorRefusal};
@@ -31,11 +32,27 @@ impl Vector {
     {
         let mut copy = Vector::new(alloc);
         for (name, at) in self.entries.iter() {
-            if !is_among(name, leaving) {
-                copy.append(name.copy(alloc)?, at.copy(alloc)?)?;
-            }
+            copy.append_kept(alloc, name, at, leaving)?;
         }
         Ok(copy)
+    }
+
+    /// Appends a copy of the entry, unless its shard leaves.
+    fn append_kept(
+        &mut self,
+        alloc: Global,
+        name: &ShardName,
+        at: &ShardAt,
+        leaving: &[ShardName],
+    ) -> Result<(), OutOfMemory>
+        requires absent { stands self.old name.now ≡ false }
+        requires room { length self.old < 64 }
+        ensures { OnOk result (self.new ≡ self.old ++ filter (λ slot. not (is_in slot.0 leaving.now)) ((name.now, entry_place at.now) ∷ [])) }
+    {
+        if is_among(name, leaving) {
+            return Ok(());
+        }
+        self.append(name.copy(alloc)?, at.copy(alloc)?)
     }
 
     /// The first of the shards that doesn't stand in the vector.
@@ -68,6 +85,27 @@ impl Vector {
         Ok(())
     }
 
+    /// Why the shards can't leave, or the successors can't come in; but for their number.
+    fn check_replaced(
+        &self,
+        participants: &[ShardName],
+        successors: &[Successor],
+    ) -> Result<(), VectorRefusal>
+        ensures absent { OnOk result (find (λ s. not (stands self.now s)) participants.now ≡ None) }
+        ensures present { OnOk result (find (λ n. stands self.now n.name) successors.now ≡ None) }
+        ensures err { IfErr result (λ e. (e ≡ VectorRefusal.Memory) ⊎ (replaced_in self.now participants.now successors.now ≡ Err e)) }
+    {
+        match (self.first_absent(participants), self.first_present(successors)) {
+            (Some(name), _) => Err(VectorRefusal::Absent {
+                name: name.copy(self.alloc)?,
+            }),
+            (None, Some(successor)) => Err(VectorRefusal::Present {
+                name: successor.name.copy(self.alloc)?,
+            }),
+            (None, None) => Ok(()),
+        }
+    }
+
     /// The vector that `replace` would make.
     pub fn replaced(
         &self,
@@ -80,14 +118,7 @@ impl Vector {
         ensures err { IfErr result (λ e. (e ≡ VectorRefusal.Memory) ⊎ (replaced_in self.now participants.now successors.now ≡ Err e)) }
     {
         let alloc = self.alloc;
-        if let Some(name) = self.first_absent(participants) {
-            let name = name.copy(alloc)?;
-            return Err(VectorRefusal::Absent { name });
-        }
-        if let Some(successor) = self.first_present(successors) {
-            let name = successor.name.copy(alloc)?;
-            return Err(VectorRefusal::Present { name });
-        }
+        self.check_replaced(participants, successors)?;
         let mut vector = self.copy_without(alloc, participants)?;
         let n = vector.len() + successors.len();
         if n > MOST_SHARDS {
