@@ -1,16 +1,17 @@
 -- What the arrival of a shard at a journal makes of the journals that wait, or why it is refused.
 use Rattle.std.specs.Prelude.{◌≡◌, ◌⊎◌, ℤ, Bool, true, false, not, List, [], ◌∷◌, ◌++◌, map, Option, Some, None, Result, Ok, Err, if◌then◌else◌, IsTrue}
 use Rattle.std.specs.Ordering.{int_eq, int_cmp}
-use Rattle.std.specs.List.{filter, find, list_all, list_any, AllByRecursion, IsStrictlySortedBy}
+use Rattle.std.specs.List.{filter, find, list_all, list_any, AllByRecursion, Contains}
+use Rattle.std.specs.List.Sorted.{IsStrictlySortedBy}
 use Rattle.vs_base.specs.Names.{names_differ}
 use Rattle.vs_base.specs.declared.ShardName.{ShardName}
 use Rattle.vs_gtid.specs.declared.JournalValue.{JournalValue}
 use Rattle.vs_gtid.specs.declared.Successor.{Successor}
 use Rattle.vs_gtid.specs.Journals.{same_journal}
 use Rattle.vs_gtid.specs.Vectors.{Vector, stands, is_in}
-use Rattle.vs_gather.specs.declared.gather.Kept.{Kept}
-use Rattle.vs_gather.specs.declared.gather.Arrival.{Arrival}
-use Rattle.vs_gather.specs.declared.gather.Arrival.TheVariants.{Waiting, Complete}
+use Rattle.vs_gather.specs.declared.kept.Kept.{Kept}
+use Rattle.vs_gather.specs.declared.kept.Arrival.{Arrival}
+use Rattle.vs_gather.specs.declared.kept.Arrival.TheVariants.{Waiting, Complete}
 use Rattle.vs_gather.specs.declared.refusal.GatherRefusal.{GatherRefusal}
 use Rattle.vs_gather.specs.declared.refusal.GatherRefusal.TheVariants.{Differs, Clash, Memory}
 
@@ -104,6 +105,10 @@ IsForeseen due (Err e) = (e ≡ Memory) ⊎ (due ≡ Err e)
 abbrev pub concerns : Vector → JournalValue → Bool
 concerns v j = list_any (stands v) j.participants
 
+-- the shard has come to a journal that waits
+abbrev pub waits : List Kept → ShardName → Bool
+waits kept s = list_any (λ k. is_in s k.arrived) kept
+
 -- the ids of the journals that wait, as they stand
 abbrev pub ids_of : List Kept → List ℤ
 ids_of kept = map (λ k. k.journal.id) kept
@@ -111,7 +116,8 @@ ids_of kept = map (λ k. k.journal.id) kept
 -- the numbers ascend, and are the ids of the journals that wait, each of them once
 pub record AreWaiting (ids : List ℤ) (kept : List Kept) : Type 0 where
   pub ascending : IsStrictlySortedBy int_cmp ids
-  pub all : (id : ℤ) → list_any (int_eq id) ids ≡ list_any (int_eq id) (ids_of kept)
+  pub each_waits : (id : ℤ) → Contains ids id → Contains (ids_of kept) id
+  pub each_told : (id : ℤ) → Contains (ids_of kept) id → Contains ids id
 
 -- a journal that waits has been come to by participants alone, each counted once, and not by all
 pub record IsWaiting (k : Kept) : Type 0 where

@@ -2,8 +2,10 @@
 #![tactic(auto)]
 
 mod gather;
+mod kept;
 mod refusal;
 
-pub use gather::{Arrival, Gather, Kept};
+pub use gather::Gather;
+pub use kept::{Arrival, Kept};
 pub use refusal::GatherRefusal;
 pub use vs_base::OutOfMemory;

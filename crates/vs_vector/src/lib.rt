@@ -10,5 +10,6 @@ mod vector;
 
 pub use place::{Place, ShardAt};
 pub use refusal::VectorRefusal;
+pub use replace::is_among;
 pub use vector::Vector;
 pub use vs_base::OutOfMemory;

@@ -13,7 +13,7 @@ use vs_base::ShardName;
 use vs_gtid::Successor;
 
 /// Whether the name is among the names.
-fn is_among(name: &ShardName, names: &[ShardName]) -> bool
+pub fn is_among(name: &ShardName, names: &[ShardName]) -> bool
     ensures { result ≡ is_in name.now names.now }
 {
     names.iter().any(|other| name.is_same(other))
