@@ -10,6 +10,7 @@ pub mod PrintedLemmas
 pub mod ReadingLemmas
 pub mod SameJournals
 pub mod ScanLemmas
+pub mod SearchLemmas
 pub mod SetTextComplete
 pub mod SetTextItems
 pub mod SetTextOver

@@ -14,6 +14,7 @@ mod part;
 mod refusal;
 mod same;
 mod scan;
+mod search;
 mod set;
 mod span;
 mod text;
