@@ -72,7 +72,7 @@ pub joined_meets : (i k : Interval) (rest : Position) → stands_before k i ≡ 
 unfolding joined
 joined_meets i k rest a b = rw (a, b) refl
 
-before_first : (k : Interval) (rest : Position) (d : Interval) → (0 < length rest → stands_before k (get_or rest 0 d) ≡ true) → StandsBeforeFirst k rest
+pub before_first : (k : Interval) (rest : Position) (d : Interval) → (0 < length rest → stands_before k (get_or rest 0 d) ≡ true) → StandsBeforeFirst k rest
 before_first k [] d h = tt
 before_first k (l ∷ rest) d h = stands_before-is k l (h (omega arith))
 

@@ -2,6 +2,7 @@ pub mod AddLemmas
 pub mod BlockLemmas
 pub mod EqualSets
 pub mod JoinLemmas
+pub mod KeptLemmas
 pub mod LawfulSpans
 pub mod MergeLemmas
 pub mod MissingLemmas

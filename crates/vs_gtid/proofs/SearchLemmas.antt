@@ -1,10 +1,10 @@
 -- A GTID of a canonical list is in the interval at its place, and in no other.
-use Rattle.std.proofs.Common.{◌≡◌, ℕ, zero, suc, ◌+◌, ◌<◌, ◌≤◌, ◌⊎◌, ◌&&◌, ◌||◌, Bool, true, false, List, [], ◌∷◌, length, get_or, nat_eq, nat_le, nat_lt, refl, ap, sym, subst, ◌∙◌, inl, inr, true≢false, arith}
-use Rattle.std.proofs.lemmas.Bool.{and_parts, cases_Bool, false_from_ne_true, leb-true, lt-ltb, or_cases}
+use Rattle.std.proofs.Common.{◌≡◌, ℕ, zero, suc, ◌+◌, ◌<◌, ◌≤◌, ◌&&◌, ◌||◌, Bool, true, false, List, [], ◌∷◌, length, get_or, nat_lt, refl, ap, sym, subst, ◌∙◌, inl, inr, true≢false, arith}
+use Rattle.std.proofs.lemmas.Bool.{and_parts, cases_Bool, false_from_ne_true, leb-true}
 use Rattle.std.proofs.lemmas.Bool.Decides.{nat_tests}
 use Rattle.std.proofs.lemmas.Slice.Eq.{bytes_eq-Decides}
 use Rattle.std.proofs.Math.Numerals.{one-add}
-use Rattle.std.specs.Cmp.Lexicographic.{pointwise, slice_cmp}
+use Rattle.std.specs.Cmp.Lexicographic.{slice_cmp}
 use Rattle.std.specs.Ordering.{nat_cmp}
 use Rattle.std.specs.declared.cmp.Ordering.TheVariants.{Less}
 use Rattle.vs_base.specs.declared.gtid.Gtid.{Gtid}
@@ -45,8 +45,8 @@ none_behind i [] g c h = refl
 none_behind i (j ∷ rest) g c h =
     let here : is_within g j ≡ false = false_from_ne_true _ (λ w. differ (stands_before-from i (alone g) (before_it i j g c.1 w)) h) in
     let there : stands_before j (alone g) ≡ false =
-        false_from_ne_true _ (λ t. differ (stands_before-from i (alone g)
-          (Before-trans i.uuid j.uuid g.uuid i.last j.first j.last g.number c.2.0.ascends c.1 (stands_before-is j (alone g) t))) h) in
+    false_from_ne_true _ (λ t. differ (stands_before-from i (alone g)
+    (Before-trans i.uuid j.uuid g.uuid i.last j.first j.last g.number c.2.0.ascends c.1 (stands_before-is j (alone g) t))) h) in
     rw (here) (none_behind j rest g c.2 there)
   where
     differ : {b : Bool} → b ≡ true → b ≡ false → ⊥
