@@ -2,6 +2,7 @@ pub mod AddLemmas
 pub mod BlockLemmas
 pub mod EqualSets
 pub mod JoinLemmas
+pub mod KeptLemmas
 pub mod LawfulSpans
 pub mod MergeLemmas
 pub mod MissingLemmas
@@ -10,6 +11,7 @@ pub mod PrintedLemmas
 pub mod ReadingLemmas
 pub mod SameJournals
 pub mod ScanLemmas
+pub mod SearchLemmas
 pub mod SetTextComplete
 pub mod SetTextItems
 pub mod SetTextOver

@@ -9,3 +9,4 @@ pub mod Text
 pub mod Logs
 pub mod Vectors
 pub mod Journals
+pub mod Kept
