@@ -157,7 +157,7 @@ pub are_waiting : (kept : List Kept) (is sorted told : List ℤ) → is ≡ ids_
 are_waiting kept is sorted told all moved ascend once =
     let left : told ≡ dedup int_eq sorted = dedup_is int_eq sorted told once in
     record {
-  ascending = subst (IsStrictlySortedBy int_cmp) (sym left) (ids_ascend is sorted ascend);
-  each_waits = λ id here. subst (λ l. Contains l id) all (Contains-permutation sorted is id (IsPermutation-sym is sorted moved) (Contains-from_dedup int_eq sorted id (subst (λ l. Contains l id) left here)));
-  each_told = λ id here. subst (λ l. Contains l id) (sym left) (Contains-dedup int_eq_equiv (λ x y. (Decides-int_eq x y).0) sorted id (Contains-permutation is sorted id moved (subst (λ l. Contains l id) (sym all) here)));
-}
+      ascending = subst (IsStrictlySortedBy int_cmp) (sym left) (ids_ascend is sorted ascend);
+      each_waits = λ id here. subst (λ l. Contains l id) all (Contains-permutation sorted is id (IsPermutation-sym is sorted moved) (Contains-from_dedup int_eq sorted id (subst (λ l. Contains l id) left here)));
+      each_told = λ id here. subst (λ l. Contains l id) (sym left) (Contains-dedup int_eq_equiv (λ x y. (Decides-int_eq x y).0) sorted id (Contains-permutation is sorted id moved (subst (λ l. Contains l id) (sym all) here)));
+    }

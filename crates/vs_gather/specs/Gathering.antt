@@ -1,9 +1,8 @@
 -- What the arrival of a shard at a journal makes of the journals that wait, or why it is refused.
-use Rattle.std.specs.Prelude.{◌≡◌, ◌⊎◌, ℤ, Bool, true, false, not, List, [], ◌∷◌, ◌++◌, map, Option, Some, None, Result, Ok, Err, if◌then◌else◌, IsTrue}
+use Rattle.std.specs.Prelude.{◌≡◌, ◌⊎◌, ℤ, Bool, true, false, not, List, [], ◌∷◌, ◌++◌, map, Option, Some, None, Result, Ok, Err, if◌then◌else◌}
 use Rattle.std.specs.Ordering.{int_eq, int_cmp}
-use Rattle.std.specs.List.{filter, find, list_all, list_any, AllByRecursion, Contains}
+use Rattle.std.specs.List.{filter, find, list_all, list_any, Contains}
 use Rattle.std.specs.List.Sorted.{IsStrictlySortedBy}
-use Rattle.vs_base.specs.Names.{names_differ}
 use Rattle.vs_base.specs.declared.ShardName.{ShardName}
 use Rattle.vs_gtid.specs.declared.JournalValue.{JournalValue}
 use Rattle.vs_gtid.specs.declared.Successor.{Successor}
@@ -118,18 +117,3 @@ pub record AreWaiting (ids : List ℤ) (kept : List Kept) : Type 0 where
   pub ascending : IsStrictlySortedBy int_cmp ids
   pub each_waits : (id : ℤ) → Contains ids id → Contains (ids_of kept) id
   pub each_told : (id : ℤ) → Contains (ids_of kept) id → Contains ids id
-
--- a journal that waits has been come to by participants alone, each counted once, and not by all
-pub record IsWaiting (k : Kept) : Type 0 where
-  pub some_missing : have_all_arrived k.journal k.arrived ≡ false
-  pub participants : list_all (λ s. is_in s k.journal.participants) k.arrived ≡ true
-  pub once : names_differ k.arrived ≡ true
-
-abbrev pub no_id_twice : List ℤ → Bool
-no_id_twice [] = true
-no_id_twice (id ∷ ids) = if list_any (int_eq id) ids then false else no_id_twice ids
-
--- the journals that wait: each waits, and no two have one id
-pub record AreKept (kept : List Kept) : Type 0 where
-  pub wait : AllByRecursion IsWaiting kept
-  pub distinct : no_id_twice (ids_of kept) ≡ true

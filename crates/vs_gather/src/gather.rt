@@ -69,9 +69,7 @@ impl Gather {
     fn find_kept(&self, journal: &JournalValue) -> Option<&Kept>
         ensures { option_copied result ≡ kept_of journal.now.id self.now }
     {
-        self.kept
-            .iter()
-            .find(|kept| kept.journal.id == journal.id)
+        self.kept.iter().find(|kept| kept.journal.id == journal.id)
     }
 
     /// The shards that have come to the journal.
@@ -240,11 +238,7 @@ fn ids_of(alloc: Global, kept: &[Kept]) -> Result<Vec<i64>, OutOfMemory>
 
 /// Refuses the journal where one of its successors stands in the vector. It takes memory only to tell
 /// which.
-fn check_clash(
-    alloc: Global,
-    vector: &Vector,
-    journal: &JournalValue,
-) -> Result<(), GatherRefusal>
+fn check_clash(alloc: Global, vector: &Vector, journal: &JournalValue) -> Result<(), GatherRefusal>
     ensures ok { OnOk result (clash vector.now journal.now ≡ None) }
     ensures err { IfErr result (λ e. (e ≡ GatherRefusal.Memory) ⊎ (clash vector.now journal.now ≡ Some e)) }
     ensures sure { clash vector.now journal.now ≡ None → IsOk result }

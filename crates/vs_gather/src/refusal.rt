@@ -15,7 +15,10 @@ pub enum GatherRefusal {
     },
     /// A successor stands in the vector; the first is named.
     #[error("a successor of journal {id} stands in the vector")]
-    Clash { id: i64, shard: ShardName },
+    Clash {
+        id: i64,
+        shard: ShardName,
+    },
     #[error("out of memory")]
     Memory,
 }

@@ -21,9 +21,10 @@ pub advance_made : {X : Type 0} (v new : Vector) (s : ShardName) (g : Gtid) (old
     OnOk r (limited_place (place_with (entry_place old) g) ≡ Ok (entry_place at)) → OnErr r (at ≡ old) →
     IfErr r (λ e. (e ≡ Memory) ⊎ (limited_place (place_with (entry_place old) g) ≡ Err e)) → IsMade (advanced v s g) v new r
 advance_made v new s g old at (Ok x) there is ok same why = ap (λ o. moved_to v s (advanced_from s o g)) there ∙ ap (moved_to v s) ok ∙ ap (λ w. Ok w) (sym is)
-advance_made v new s g old at (Err e) there is ok same why =
-    (is ∙ ap (λ a. moved v s (entry_place a)) same ∙ moved-same v s (entry_place old) there,
-    ⊎_elim (λ m. inl m) (λ h. inr (ap (λ o. moved_to v s (advanced_from s o g)) there ∙ ap (moved_to v s) h)) why)
+advance_made v new s g old at (Err e) there is ok same why = (
+  is ∙ ap (λ a. moved v s (entry_place a)) same ∙ moved-same v s (entry_place old) there,
+  ⊎_elim (λ m. inl m) (λ h. inr (ap (λ o. moved_to v s (advanced_from s o g)) there ∙ ap (moved_to v s) h)) why,
+)
 
 pub advance_lawful : {X : Type 0} (v new : Vector) (s : ShardName) (old at : ShardAt) (r : Result X VectorRefusal) → place_of v s ≡ Some (entry_place old) → new ≡ moved v s (entry_place at) →
     OnErr r (at ≡ old) → OnOk r (IsLawfulPlace (entry_place at)) → IsVector v → IsVector new
@@ -46,18 +47,18 @@ copying-next keep copy new rest all slot on e = by (keep slot) refl
         let is : new ≡ copy ++ slot ∷ [] = e ∙ ap (λ y. copy ++ (if y then slot ∷ [] else [])) p in
         let long : length new ≡ length copy + 1 = ap length is ∙ length-append copy (slot ∷ []) in
         record {
-      gives = ap (λ l. l ++ filter keep rest) is ∙ append_assoc copy (slot ∷ []) (filter keep rest) ∙ ap (λ y. copy ++ (if y then slot ∷ filter keep rest else filter keep rest)) (sym p) ∙ on.gives;
-      differ = ap (λ l. names_differ (names l ++ names rest)) is ∙ differ-next copy slot.0 slot.1 (names rest) on.differ;
-      room = omega (arith, long, on.room);
-    }
+          gives = ap (λ l. l ++ filter keep rest) is ∙ append_assoc copy (slot ∷ []) (filter keep rest) ∙ ap (λ y. copy ++ (if y then slot ∷ filter keep rest else filter keep rest)) (sym p) ∙ on.gives;
+          differ = ap (λ l. names_differ (names l ++ names rest)) is ∙ differ-next copy slot.0 slot.1 (names rest) on.differ;
+          room = omega (arith, long, on.room);
+        }
     by false p =
         let is : new ≡ copy = e ∙ ap (λ y. copy ++ (if y then slot ∷ [] else [])) p ∙ append-nil copy in
         let long : length new ≡ length copy = ap length is in
         record {
-      gives = ap (λ l. l ++ filter keep rest) is ∙ ap (λ y. copy ++ (if y then slot ∷ filter keep rest else filter keep rest)) (sym p) ∙ on.gives;
-      differ = ap (λ l. names_differ (names l ++ names rest)) is ∙ differ-less copy slot.0 (names rest) on.differ;
-      room = omega (arith, long, on.room);
-    }
+          gives = ap (λ l. l ++ filter keep rest) is ∙ ap (λ y. copy ++ (if y then slot ∷ filter keep rest else filter keep rest)) (sym p) ∙ on.gives;
+          differ = ap (λ l. names_differ (names l ++ names rest)) is ∙ differ-less copy slot.0 (names rest) on.differ;
+          room = omega (arith, long, on.room);
+        }
 
 pub copying-absent : (keep : ShardName × Place → Bool) (copy rest all : Vector) (slot : ShardName × Place) → IsCopying keep copy (slot ∷ rest) all → stands copy slot.0 ≡ false
 copying-absent keep copy rest all slot on = absent-of-differ copy slot.0 (names rest) on.differ
@@ -91,10 +92,11 @@ IsJoining next left all = (next ++ begun_at left ≡ all) × (names_differ (name
 pub joining-next : (next new : Vector) (n : Successor) (left : List Successor) (all : Vector) → IsJoining next (n ∷ left) all → new ≡ next ++ (n.name, Streaming n.position) ∷ [] → IsJoining new left all
 joining-next next new n left all on is =
     let long : length new ≡ length next + 1 = ap length is ∙ length-append next ((n.name, Streaming n.position) ∷ []) in
-    let room : length next + length (n ∷ left) ≤ most_shards = on.2 in
-    (ap (λ l. l ++ begun_at left) is ∙ append_assoc next ((n.name, Streaming n.position) ∷ []) (begun_at left) ∙ on.0,
-    ap (λ l. names_differ (names l ++ map (λ (m : Successor). m.name) left)) is ∙ differ-next next n.name (Streaming n.position) (map (λ (m : Successor). m.name) left) on.1,
-    omega (arith, long, room))
+    let room : length next + length (n ∷ left) ≤ most_shards = on.2 in (
+      ap (λ l. l ++ begun_at left) is ∙ append_assoc next ((n.name, Streaming n.position) ∷ []) (begun_at left) ∙ on.0,
+      ap (λ l. names_differ (names l ++ map (λ (m : Successor). m.name) left)) is ∙ differ-next next n.name (Streaming n.position) (map (λ (m : Successor). m.name) left) on.1,
+      omega (arith, long, room),
+    )
 
 pub joining-absent : (next : Vector) (n : Successor) (left : List Successor) (all : Vector) → IsJoining next (n ∷ left) all → stands next n.name ≡ false
 joining-absent next n left all on = absent-of-differ next n.name (map (λ (m : Successor). m.name) left) on.1

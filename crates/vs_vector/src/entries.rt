@@ -14,11 +14,7 @@ use vs_base::{Gtid, ShardName};
 pub type Entries = IndexMap<ShardName, ShardAt>;
 
 /// Appends an entry of another shard.
-pub fn append_entry(
-    entries: &mut Entries,
-    name: ShardName,
-    at: ShardAt,
-) -> Result<(), OutOfMemory>
+pub fn append_entry(entries: &mut Entries, name: ShardName, at: ShardAt) -> Result<(), OutOfMemory>
     requires { stands (vector_of entries.old.entries) name ≡ false }
     ensures ok { OnOk result (vector_of entries.new.entries ≡ vector_of entries.old.entries ++ (name, entry_place at) ∷ []) }
     ensures err { OnErr result (vector_of entries.new.entries ≡ vector_of entries.old.entries) }

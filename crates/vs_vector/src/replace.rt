@@ -66,7 +66,9 @@ impl Vector {
     fn first_present<'a>(&self, successors: &'a [Successor]) -> Option<&'a Successor>
         ensures { option_copied result ≡ find (λ n. stands self.now n.name) successors.now }
     {
-        successors.iter().find(|successor| self.stands(&successor.name))
+        successors
+            .iter()
+            .find(|successor| self.stands(&successor.name))
     }
 
     /// Appends the successors, each at its position.
@@ -95,7 +97,10 @@ impl Vector {
         ensures present { OnOk result (find (λ n. stands self.now n.name) successors.now ≡ None) }
         ensures err { IfErr result (λ e. (e ≡ VectorRefusal.Memory) ⊎ (replaced_in self.now participants.now successors.now ≡ Err e)) }
     {
-        match (self.first_absent(participants), self.first_present(successors)) {
+        match (
+            self.first_absent(participants),
+            self.first_present(successors),
+        ) {
             (Some(name), _) => Err(VectorRefusal::Absent {
                 name: name.copy(self.alloc)?,
             }),

@@ -33,7 +33,8 @@ pub returns-in_ok-copy-in-None-clause-made : goal.returns-in_ok-copy-in-None-cla
 unfolding same_name
 returns-in_ok-copy-in-None-clause-made c =
     let es = c.args.entries.now.entries in
-    let s = c.args.name.now in
-    (ap (λ m. vector_of m.entries) c.get_mut.follows.holds-at-none,
-    inr (ap (λ o. moved_to (vector_of es) s (advanced_from s o c.args.gtid)) (sym (looked_up s _ (λ k. refl) es) ∙ ap (option_map entry_place) (sym c.in-None.ensures.value))
-    ∙ ap (λ n. Err (Absent n)) (sym c.in_ok-copy-in-None.ensures)))
+    let s = c.args.name.now in (
+      ap (λ m. vector_of m.entries) c.get_mut.follows.holds-at-none,
+      inr (ap (λ o. moved_to (vector_of es) s (advanced_from s o c.args.gtid)) (sym (looked_up s _ (λ k. refl) es) ∙ ap (option_map entry_place) (sym c.in-None.ensures.value))
+          ∙ ap (λ n. Err (Absent n)) (sym c.in_ok-copy-in-None.ensures)),
+    )
