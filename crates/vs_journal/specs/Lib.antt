@@ -1,1 +1,3 @@
 pub mod Journals
+pub mod Escapes
+pub mod Tokens
