@@ -1,2 +1,4 @@
 pub mod NameLemmas
 pub mod ScanLemmas
+pub mod JudgeLemmas
+pub mod ReadLemmas
