@@ -40,7 +40,7 @@ behind_front front y (Some ys) = ap Some (sym (append_assoc front (y ∷ []) ys)
 all_some_more : {A B : Type 0} (f : A → Option B) (front : List B) (x : A) (xs : List A) (y : B) → f x ≡ Some y → option_map (λ ys. front ++ ys) (all_some f (x ∷ xs)) ≡ option_map (λ ys. (front ++ y ∷ []) ++ ys) (all_some f xs)
 all_some_more f front x xs y h = ap (λ o. option_map (λ ys. front ++ ys) (option_and_then (λ z. option_map (λ zs. z ∷ zs) (all_some f xs)) o)) h ∙ behind_front front y (all_some f xs)
 
-item_at : {A : Type 0} (ms : List A) (i : ℕ) (m : A) → i < length ms → m ≡ get_or ms i m → drop i ms ≡ m ∷ drop (i + 1) ms
+pub item_at : {A : Type 0} (ms : List A) (i : ℕ) (m : A) → i < length ms → m ≡ get_or ms i m → drop i ms ≡ m ∷ drop (i + 1) ms
 item_at ms i m within at =
     let e : suc i ≡ i + 1 = omega arith in
     drop-cons ms i m within ∙ ap (λ x. x ∷ drop (suc i) ms) (sym at) ∙ ap (λ k. m ∷ drop k ms) e

@@ -2,3 +2,4 @@ pub mod NameLemmas
 pub mod ScanLemmas
 pub mod JudgeLemmas
 pub mod ReadLemmas
+pub mod WriteLemmas

@@ -50,7 +50,7 @@ string_token-leaves : (n : ℕ) (r : Result (List ℕ × List ℕ) ℕ) → Stri
 string_token-leaves n (Ok p) h = h
 string_token-leaves n (Err left) h = omega arith
 
-gap-by : (o : Option Bool) (c : ℕ) (cs : List ℕ) → ((more : Bool) → length (past_gap more cs) ≤ length cs) → length (elim o [ None ↦ c ∷ cs | Some more ↦ past_gap more cs ]) ≤ suc (length cs)
+gap-by : (o : Option Bool) (c : ℕ) (cs : List ℕ) → ((more : Bool) → length (past_gap more cs) ≤ length cs) → length {A = ℕ} (elim o [ None ↦ c ∷ cs | Some more ↦ past_gap more cs ]) ≤ suc (length cs)
 gap-by None c cs short = omega arith
 gap-by (Some more) c cs short = let h = short more in omega arith
 

@@ -71,7 +71,8 @@ fn put_gtid(alloc: Global, position: &GtidSet, text: &mut Vec<u8>) -> Result<(),
 {
     text.extend_from_slice(b" gtid:\"MySQL56/")?;
     position.put_text(alloc, text)?;
-    text.extend_from_slice(b"\"")
+    text.extend_from_slice(b"\"")?;
+    Ok(())
 }
 
 fn put_successor(alloc: Global, successor: &Successor, text: &mut Vec<u8>) -> Result<(), OutOfMemory>
