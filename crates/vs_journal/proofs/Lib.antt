@@ -3,3 +3,4 @@ pub mod ScanLemmas
 pub mod JudgeLemmas
 pub mod ReadLemmas
 pub mod WriteLemmas
+pub mod AcceptLaws

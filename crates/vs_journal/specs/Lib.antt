@@ -6,3 +6,4 @@ pub mod Judgement
 pub mod NameOrder
 pub mod Refusals
 pub mod Texts
+pub mod Productions
