@@ -4,3 +4,6 @@ pub mod JudgeLemmas
 pub mod ReadLemmas
 pub mod WriteLemmas
 pub mod AcceptLaws
+pub mod FindLaws
+pub mod JournalLaws
+pub mod TextLaws
