@@ -1,11 +1,11 @@
 -- The machine takes what the productions say is a journal.
-use Rattle.std.proofs.Common.{◌≡◌, ◌∙◌, ◌++◌, ◌+◌, ◌<◌, ◌≤◌, ℕ, zero, suc, Bool, true, false, List, [], ◌∷◌, Option, Some, None, length, map, refl, ap, sym, subst, inl, inr, ◌⊎◌, append_assoc, append-nil, arith, cond, nat_lt, ltb}
+use Rattle.std.proofs.Common.{◌≡◌, ◌∙◌, ◌++◌, ◌+◌, ◌<◌, ◌≤◌, ℕ, zero, suc, Bool, true, List, [], ◌∷◌, Option, Some, None, length, map, refl, ap, sym, subst, inl, inr, append_assoc, append-nil, arith, cond}
 use Rattle.std.specs.Prelude.{option_map, is_some}
 use Rattle.std.specs.List.{concat}
 use Rattle.std.specs.Option.{option_and_then}
 use Rattle.std.proofs.lemmas.Bool.{lt-ltb}
 use Rattle.vs_journal.specs.Grammar.{journal_at, journal_field, member_field, no_member, set_text, state_behind, with_member}
-use Rattle.vs_journal.specs.Productions.{AreFields, AreMoreItems, AreStrings, IsItemList, IsJournalField, IsMember, IsMemberField, IsMessage, IsOptionalColon, IsScalar, IsSeparator, IsUnknownValue, JournalSetting, MemberSetting, SetsId, SetsKind, NamesMember, SaysNothing, is_text_field, journal_with, kind_in, member_with, settled, field_naming}
+use Rattle.vs_journal.specs.Productions.{AreFields, AreMoreItems, IsItemList, IsJournalField, IsMember, IsMemberField, IsOptionalColon, IsScalar, IsSeparator, IsUnknownValue, JournalSetting, SetsId, SetsKind, NamesMember, SaysNothing, is_text_field, journal_with, kind_in, member_with, settled, field_naming}
 use Rattle.vs_journal.specs.declared.token.Bracket.{Bracket}
 use Rattle.vs_journal.specs.declared.token.Bracket.TheVariants.{Curly, Angle}
 use Rattle.vs_journal.specs.declared.token.Token.{Token}

@@ -1,26 +1,21 @@
 -- What the machine takes is what the productions say.
-use Rattle.std.proofs.Common.{◌≡◌, ◌∙◌, ◌++◌, ◌+◌, ◌<◌, ◌≤◌, ℕ, zero, suc, Bool, true, false, List, [], ◌∷◌, Option, Some, None, length, map, refl, ap, sym, subst, inl, inr, ◌⊎◌, append_assoc, append-nil, arith, cond, nat_lt}
-use Rattle.std.specs.Prelude.{option_map, is_some}
+use Rattle.std.proofs.Common.{◌≡◌, ◌∙◌, ◌++◌, ◌+◌, ◌<◌, ◌≤◌, ℕ, zero, suc, Bool, true, false, List, [], ◌∷◌, Option, Some, None, length, map, refl, ap, sym, inl, inr, append_assoc, arith, cond, nat_lt}
 use Rattle.std.specs.List.{concat}
 use Rattle.std.specs.Option.{option_and_then}
 use Rattle.std.proofs.lemmas.Bool.{ltb-true}
-use Rattle.vs_journal.specs.Grammar.{ended_in, field_in, first_state, gtid_field, id_of, journal_field, kind_named, kind_numbered, member_field, no_journal, no_member, same_text, set_text, with_member}
-use Rattle.vs_journal.specs.Productions.{AreFields, AreMoreItems, AreStrings, IsItemList, IsJournal, IsJournalField, IsListValue, IsMember, IsMemberField, IsOptionalColon, IsScalar, IsScalarValue, IsSeparator, IsUnknownValue, JournalSetting, MemberSetting, SetsId, SetsKind, NamesMember, SaysNothing, field_naming, is_text_field, journal_with, kind_in, member_with, settled}
+use Rattle.vs_journal.specs.Grammar.{ended_in, field_in}
+use Rattle.vs_journal.specs.Productions.{AreFields, AreMoreItems, IsItemList, IsListValue, IsOptionalColon, IsScalar, IsScalarValue, IsSeparator, IsUnknownValue, settled}
 use Rattle.vs_journal.specs.declared.token.Bracket.{Bracket}
 use Rattle.vs_journal.specs.declared.token.Bracket.TheVariants.{Curly, Angle}
 use Rattle.vs_journal.specs.declared.token.Token.{Token}
 use Rattle.vs_journal.specs.declared.token.Token.TheVariants as token
-use Rattle.vs_journal.specs.declared.parsed.Member.{Member}
 use Rattle.vs_journal.specs.declared.parsed.ParsedJournal.{ParsedJournal}
-use Rattle.vs_journal.specs.declared.state.FieldName.{FieldName}
 use Rattle.vs_journal.specs.declared.state.FieldName.TheVariants as field
 use Rattle.vs_journal.specs.declared.state.Awaits.{Awaits}
-use Rattle.vs_journal.specs.declared.state.Awaits.TheVariants.{Name, Behind, BehindText, BehindName, Value, FirstItem, Item, BehindItem, BehindItemText}
-use Rattle.vs_journal.specs.declared.state.Role.{Role}
-use Rattle.vs_journal.specs.declared.state.Role.TheVariants as role
+use Rattle.vs_journal.specs.declared.state.Awaits.TheVariants.{Name, Behind, BehindText, BehindName, FirstItem, Item, BehindItem, BehindItemText}
 use Rattle.vs_journal.specs.declared.state.OpenMember.{OpenMember}
 use Rattle.vs_journal.specs.declared.state.TextState.{TextState}
-use Rattle.vs_journal.proofs.AcceptLaws.{NoBytes, accept, at, close_alike, item_text_is_behind, open_at, open_member, same_current, text_is_behind}
+use Rattle.vs_journal.proofs.AcceptLaws.{accept, at, close_alike, item_text_is_behind, open_at, same_current, text_is_behind}
 
 pub never_ends : (p : List Bracket) (c : Option OpenMember) (j r : ParsedJournal) → ended_in p c false j ≡ Some r → ⊥
 never_ends (b ∷ p) c j r h = cc
@@ -74,10 +69,15 @@ items_found (suc n) j c p (token.Comma ∷ ts) r few h =
     let item = item_found j c p ts r h in
     let less : length item.1 < length ts = item.5 in
     let later = items_found n j c p item.1 r (omega arith) item.4 in
-    let shorter : length later.2 < length item.1 = later.6 in
-    (item.0 ∷ later.0, token.Comma ∷ (item.0 ++ later.1), later.2,
-     ap (λ q. token.Comma ∷ q) (item.2 ∙ ap (λ q. item.0 ++ q) later.3 ∙ sym (append_assoc item.0 later.1 (token.CloseList ∷ later.2))),
-     (later.1, refl, item.3, later.4), later.5, omega arith)
+    let shorter : length later.2 < length item.1 = later.6 in (
+      item.0 ∷ later.0,
+      token.Comma ∷ (item.0 ++ later.1),
+      later.2,
+      ap (λ q. token.Comma ∷ q) (item.2 ∙ ap (λ q. item.0 ++ q) later.3 ∙ sym (append_assoc item.0 later.1 (token.CloseList ∷ later.2))),
+      (later.1, refl, item.3, later.4),
+      later.5,
+      omega arith,
+    )
 items_found n j c p (t ∷ ts) r few h = absurd (cc)
 
 abbrev ListFound : (Awaits → TextState) → List Token → ParsedJournal → Type 0
@@ -89,10 +89,14 @@ list_from j c p ts r h =
     let less : length item.1 < length ts = item.5 in
     let later = items_found (length item.1) j c p item.1 r (omega arith) item.4 in
     let shorter : length later.2 < length item.1 = later.6 in
-    let regrouped : (item.0 ++ (later.1 ++ token.CloseList ∷ [])) ++ later.2 ≡ item.0 ++ (later.1 ++ token.CloseList ∷ later.2) = append_assoc item.0 (later.1 ++ token.CloseList ∷ []) later.2 ∙ ap (λ q. item.0 ++ q) (append_assoc later.1 (token.CloseList ∷ []) later.2) in
-    (token.OpenList ∷ (item.0 ++ (later.1 ++ token.CloseList ∷ [])), later.2,
-     ap (λ q. token.OpenList ∷ q) (item.2 ∙ ap (λ q. item.0 ++ q) later.3 ∙ sym regrouped),
-     inr (item.0, later.1, later.0, refl, item.3, later.4), later.5, omega arith)
+    let regrouped : (item.0 ++ (later.1 ++ token.CloseList ∷ [])) ++ later.2 ≡ item.0 ++ (later.1 ++ token.CloseList ∷ later.2) = append_assoc item.0 (later.1 ++ token.CloseList ∷ []) later.2 ∙ ap (λ q. item.0 ++ q) (append_assoc later.1 (token.CloseList ∷ []) later.2) in (
+      token.OpenList ∷ (item.0 ++ (later.1 ++ token.CloseList ∷ [])),
+      later.2,
+      ap (λ q. token.OpenList ∷ q) (item.2 ∙ ap (λ q. item.0 ++ q) later.3 ∙ sym regrouped),
+      inr (item.0, later.1, later.0, refl, item.3, later.4),
+      later.5,
+      omega arith,
+    )
 
 list_found : (j : ParsedJournal) (c : Option OpenMember) (p : List Bracket) (ts : List Token) (r : ParsedJournal) → accept (at j c p FirstItem) ts ≡ Some r → ListFound (at j c p) ts r
 list_found j c p [] r h = absurd (never_ends p c j r h)
@@ -138,10 +142,16 @@ fields_found jf cf p F set n r one (suc k) x (token.Word name ∷ ts) few within
     let shorter : length sep.1 ≤ length f.1 = sep.5 in
     let later = fields_found jf cf p F set n r one k (set x f.2) sep.1 (omega arith) (omega arith) sep.4 in
     let shortest : length later.2 ≤ length sep.1 = later.7 in
-    let regrouped : (f.0 ++ (sep.0 ++ later.1)) ++ later.2 ≡ f.0 ++ (sep.0 ++ (later.1 ++ later.2)) = append_assoc f.0 (sep.0 ++ later.1) later.2 ∙ ap (λ q. f.0 ++ q) (append_assoc sep.0 later.1 later.2) in
-    (f.2 ∷ later.0, token.Word name ∷ (f.0 ++ (sep.0 ++ later.1)), later.2,
-     ap (λ q. token.Word name ∷ q) (f.3 ∙ ap (λ q. f.0 ++ q) (sep.2 ∙ ap (λ q. sep.0 ++ q) later.3) ∙ sym regrouped),
-     (name, f.0, sep.0, later.1, refl, f.4, sep.3, later.4), later.5, later.6, omega arith)
+    let regrouped : (f.0 ++ (sep.0 ++ later.1)) ++ later.2 ≡ f.0 ++ (sep.0 ++ (later.1 ++ later.2)) = append_assoc f.0 (sep.0 ++ later.1) later.2 ∙ ap (λ q. f.0 ++ q) (append_assoc sep.0 later.1 later.2) in (
+      f.2 ∷ later.0,
+      token.Word name ∷ (f.0 ++ (sep.0 ++ later.1)),
+      later.2,
+      ap (λ q. token.Word name ∷ q) (f.3 ∙ ap (λ q. f.0 ++ q) (sep.2 ∙ ap (λ q. sep.0 ++ q) later.3) ∙ sym regrouped),
+      (name, f.0, sep.0, later.1, refl, f.4, sep.3, later.4),
+      later.5,
+      later.6,
+      omega arith,
+    )
 fields_found jf cf p F set n r one k x (t ∷ ts) few within h = absurd (cc)
 
 -- ---- unknown values
@@ -190,10 +200,14 @@ message_found n ih (suc room) j c b p colon ts r is few fits h =
     let short : length fields.2 ≤ length ts = fields.7 in
     let shorter : length fields.2 ≡ suc (length end.0) = ap length end.1 in
     let inner = fields.1 in
-    let regrouped : (colon ++ (token.Open b ∷ (inner ++ token.Close b ∷ []))) ++ end.0 ≡ colon ++ (token.Open b ∷ (inner ++ token.Close b ∷ end.0)) = append_assoc colon (token.Open b ∷ (inner ++ token.Close b ∷ [])) end.0 ∙ ap (λ q. colon ++ (token.Open b ∷ q)) (append_assoc inner (token.Close b ∷ []) end.0) in
-    (colon ++ (token.Open b ∷ (inner ++ token.Close b ∷ [])), end.0,
-     ap (λ q. colon ++ (token.Open b ∷ q)) (fields.3 ∙ ap (λ q. inner ++ q) end.1) ∙ sym regrouped,
-     inr (inr (b, colon, inner, refl, is, (fields.0, fields.4))), end.2, longer colon ts end.0 b (omega arith))
+    let regrouped : (colon ++ (token.Open b ∷ (inner ++ token.Close b ∷ []))) ++ end.0 ≡ colon ++ (token.Open b ∷ (inner ++ token.Close b ∷ end.0)) = append_assoc colon (token.Open b ∷ (inner ++ token.Close b ∷ [])) end.0 ∙ ap (λ q. colon ++ (token.Open b ∷ q)) (append_assoc inner (token.Close b ∷ []) end.0) in (
+      colon ++ (token.Open b ∷ (inner ++ token.Close b ∷ [])),
+      end.0,
+      ap (λ q. colon ++ (token.Open b ∷ q)) (fields.3 ∙ ap (λ q. inner ++ q) end.1) ∙ sym regrouped,
+      inr (inr (b, colon, inner, refl, is, (fields.0, fields.4))),
+      end.2,
+      longer colon ts end.0 b (omega arith),
+    )
   where
     longer : (colon ts more : List Token) (b : Bracket) → length more ≤ length ts → length more ≤ length (colon ++ token.Open b ∷ ts)
     longer [] ts more b h = omega arith

@@ -1,10 +1,10 @@
 -- What the machine takes as a participant, a successor or a journal is what the productions say.
-use Rattle.std.proofs.Common.{◌≡◌, ◌∙◌, ◌++◌, ◌+◌, ◌<◌, ◌≤◌, ℕ, zero, suc, Bool, true, false, List, [], ◌∷◌, Option, Some, None, ℤ, length, map, refl, ap, sym, subst, inl, inr, append_assoc, append-nil, arith, cond}
+use Rattle.std.proofs.Common.{◌≡◌, ◌∙◌, ◌++◌, ◌≤◌, ℕ, suc, Bool, true, false, List, [], ◌∷◌, Option, Some, None, ℤ, length, map, refl, ap, sym, subst, inl, inr, append_assoc, append-nil, arith, cond}
 use Rattle.std.specs.Prelude.{option_map, codes}
 use Rattle.std.specs.List.{concat}
 use Rattle.std.specs.Option.{option_and_then}
 use Rattle.vs_journal.specs.Grammar.{first_state, gtid_field, id_of, journal_field, kind_named, kind_numbered, member_field, no_journal, no_member, same_text, set_text, with_member}
-use Rattle.vs_journal.specs.Productions.{AreFields, AreStrings, IsJournal, IsJournalField, IsMember, IsMemberField, IsOptionalColon, IsUnknownValue, JournalSetting, MemberSetting, SetsId, SetsKind, NamesMember, SaysNothing, field_naming, is_text_field, journal_with, kind_in, member_with, settled}
+use Rattle.vs_journal.specs.Productions.{AreFields, AreStrings, IsJournal, IsJournalField, IsMemberField, IsOptionalColon, SetsId, SetsKind, NamesMember, SaysNothing, field_naming, is_text_field, journal_with, kind_in, member_with, settled}
 use Rattle.vs_journal.specs.declared.token.Bracket.{Bracket}
 use Rattle.vs_journal.specs.declared.token.Bracket.TheVariants.{Curly, Angle}
 use Rattle.vs_journal.specs.declared.token.Token.{Token}
@@ -13,13 +13,11 @@ use Rattle.vs_journal.specs.declared.parsed.Member.{Member}
 use Rattle.vs_journal.specs.declared.parsed.ParsedJournal.{ParsedJournal}
 use Rattle.vs_journal.specs.declared.state.FieldName.{FieldName}
 use Rattle.vs_journal.specs.declared.state.FieldName.TheVariants as field
-use Rattle.vs_journal.specs.declared.state.Awaits.{Awaits}
-use Rattle.vs_journal.specs.declared.state.Awaits.TheVariants.{Name, Behind, BehindText, BehindName, Value}
+use Rattle.vs_journal.specs.declared.state.Awaits.TheVariants.{Name, Behind, BehindText, BehindName}
 use Rattle.vs_journal.specs.declared.state.Role.{Role}
 use Rattle.vs_journal.specs.declared.state.Role.TheVariants as role
-use Rattle.vs_journal.specs.declared.state.OpenMember.{OpenMember}
 use Rattle.vs_journal.proofs.AcceptLaws.{accept, at, open_member, text_is_behind, journal_accepted}
-use Rattle.vs_journal.proofs.FindLaws.{Ends, FieldFound, FieldsFound, FindsField, ValueFound, fields_found, never_ends, value_found}
+use Rattle.vs_journal.proofs.FindLaws.{Ends, FieldFound, FindsField, fields_found, value_found}
 
 -- ---- a member's fields
 
@@ -52,9 +50,13 @@ no_more_text j of b m f text ts r h = ([], ts, refl, ap (λ t. accept (at j (Som
 
 one_more_text : (j : ParsedJournal) (of : Role) (b : Bracket) (m : Member) (f : FieldName) (text c : List ℕ) (ts : List Token) (r : ParsedJournal) → TextsFound j of b m f (text ++ c) ts r → TextsFound j of b m f text (token.Bytes c ∷ ts) r
 one_more_text j of b m f text c ts r later =
-    let less : length later.1 ≤ length ts = later.4 in
-    (c ∷ later.0, later.1, ap (λ q. token.Bytes c ∷ q) later.2,
-     ap (λ t. accept (at j (Some (open_member of b (set_text f t m))) [] Behind) later.1) (sym (append_assoc text c (concat later.0))) ∙ later.3, omega arith)
+    let less : length later.1 ≤ length ts = later.4 in (
+      c ∷ later.0,
+      later.1,
+      ap (λ q. token.Bytes c ∷ q) later.2,
+      ap (λ t. accept (at j (Some (open_member of b (set_text f t m))) [] Behind) later.1) (sym (append_assoc text c (concat later.0))) ∙ later.3,
+      omega arith,
+    )
 
 texts_found : (j : ParsedJournal) (of : Role) (b : Bracket) (m : Member) (f : FieldName) (text : List ℕ) (ts : List Token) (r : ParsedJournal) → is_text_field f ≡ true → accept (at j (Some (open_member of b (set_text f text m))) [] (BehindText f)) ts ≡ Some r → TextsFound j of b m f text ts r
 texts_found j of b m f text [] r is h = no_more_text j of b m f text [] r h
@@ -135,10 +137,15 @@ member_made of b j name colon ts r e is h =
     let short : length fields.2 ≤ length ts = fields.7 in
     let shorter : length fields.2 ≡ suc (length end.0) = ap length end.1 in
     let inner = fields.1 in
-    let regrouped : (colon ++ (token.Open b ∷ (inner ++ token.Close b ∷ []))) ++ end.0 ≡ colon ++ (token.Open b ∷ (inner ++ token.Close b ∷ end.0)) = append_assoc colon (token.Open b ∷ (inner ++ token.Close b ∷ [])) end.0 ∙ ap (λ q. colon ++ (token.Open b ∷ q)) (append_assoc inner (token.Close b ∷ []) end.0) in
-    (colon ++ (token.Open b ∷ (inner ++ token.Close b ∷ [])), end.0, NamesMember of m,
-     ap (λ q. colon ++ (token.Open b ∷ q)) (fields.3 ∙ ap (λ q. inner ++ q) end.1) ∙ sym regrouped,
-     (e, (b, colon, inner, refl, is, (fields.0, fields.4, refl))), end.2, longer colon ts end.0 b (omega arith))
+    let regrouped : (colon ++ (token.Open b ∷ (inner ++ token.Close b ∷ []))) ++ end.0 ≡ colon ++ (token.Open b ∷ (inner ++ token.Close b ∷ end.0)) = append_assoc colon (token.Open b ∷ (inner ++ token.Close b ∷ [])) end.0 ∙ ap (λ q. colon ++ (token.Open b ∷ q)) (append_assoc inner (token.Close b ∷ []) end.0) in (
+      colon ++ (token.Open b ∷ (inner ++ token.Close b ∷ [])),
+      end.0,
+      NamesMember of m,
+      ap (λ q. colon ++ (token.Open b ∷ q)) (fields.3 ∙ ap (λ q. inner ++ q) end.1) ∙ sym regrouped,
+      (e, (b, colon, inner, refl, is, (fields.0, fields.4, refl))),
+      end.2,
+      longer colon ts end.0 b (omega arith),
+    )
 
 -- ---- a journal's fields
 

@@ -1,5 +1,5 @@
 -- Names and positions one by one.
-use Rattle.std.proofs.Common.{◌≡◌, ◌++◌, ◌∙◌, ◌+◌, ◌<◌, ℕ, zero, suc, Bool, true, false, not, ◌⊎◌, inl, inr, List, [], ◌∷◌, Option, Some, None, Result, Ok, Err, ℤ, ◌||◌, cond, map, refl, ap, sym, subst, append_assoc, append-nil, add-one, arith, drop, get_or, length, ◌≤◌}
+use Rattle.std.proofs.Common.{◌≡◌, ◌++◌, ◌∙◌, ◌+◌, ◌<◌, ℕ, zero, suc, Bool, true, false, not, ◌⊎◌, inl, inr, List, [], ◌∷◌, Option, Some, None, Result, Ok, Err, ℤ, ◌||◌, cond, map, refl, ap, sym, subst, append_assoc, append-nil, arith, drop, get_or, length, ◌≤◌}
 use Rattle.std.specs.Prelude.{option_map, ◌&&◌, nat_le}
 use Rattle.std.specs.Result.{result_ok}
 use Rattle.std.specs.Option.{is_some, option_and_then}
@@ -8,7 +8,7 @@ use Rattle.std.specs.BTreeMap.{insert_entry, is_at}
 use Rattle.std.specs.BTreeSet.{insert_key}
 use Rattle.std.specs.List.{AllByRecursion, list_any}
 use Rattle.std.specs.List.Sorted.{IsStrictlySortedBy}
-use Rattle.std.specs.Ordering.{match_ordering, nat_cmp, ordering_reverse, ordering_then}
+use Rattle.std.specs.Ordering.{match_ordering, ordering_reverse}
 use Rattle.std.specs.Cmp.{IsTotalOrder}
 use Rattle.std.specs.declared.cmp.Ordering.{Ordering}
 use Rattle.std.specs.declared.cmp.Ordering.TheVariants.{Less, Equal, Greater}
@@ -21,7 +21,7 @@ use Rattle.vs_base.specs.Names.{names_differ, same_name}
 use Rattle.vs_base.specs.declared.shard_name.ShardName.{ShardName}
 use Rattle.vs_base.proofs.NameLemmas.{same_name-is}
 use Rattle.vs_gtid.specs.Positions.{Position}
-use Rattle.vs_gtid.specs.Readings.{ReadsSet, read}
+use Rattle.vs_gtid.specs.Readings.{ReadsSet}
 use Rattle.vs_gtid.specs.declared.refusal.GtidRefusal.{GtidRefusal}
 use Rattle.vs_gtid.specs.declared.refusal.GtidRefusal.TheVariants.{Memory}
 use Rattle.vs_gtid.proofs.ReadingLemmas.{only}
@@ -131,8 +131,8 @@ insert_plain n [] = refl
 insert_plain n (k ∷ ks) = go (name_cmp n k) (insert_plain n ks)
   where
     go : (o : Ordering) → insert_key plain_cmp (map plain_name ks) (plain_name n) ≡ map plain_name (insert_key name_cmp ks n)
-      → match_ordering o (plain_name n ∷ plain_name k ∷ map plain_name ks) (plain_name k ∷ map plain_name ks) (plain_name k ∷ insert_key plain_cmp (map plain_name ks) (plain_name n))
-      ≡ map plain_name (match_ordering o (n ∷ k ∷ ks) (k ∷ ks) (k ∷ insert_key name_cmp ks n))
+        → match_ordering o (plain_name n ∷ plain_name k ∷ map plain_name ks) (plain_name k ∷ map plain_name ks) (plain_name k ∷ insert_key plain_cmp (map plain_name ks) (plain_name n))
+        ≡ map plain_name (match_ordering o (n ∷ k ∷ ks) (k ∷ ks) (k ∷ insert_key name_cmp ks n))
     go Less later = refl
     go Equal later = refl
     go Greater later = ap (λ zs. plain_name k ∷ zs) later
@@ -141,7 +141,7 @@ pub gathered_plain : (keys ks : List ShardName) → gathered_keys plain_cmp (map
 gathered_plain keys [] = refl
 gathered_plain keys (k ∷ ks) =
     let rest : gathered_keys plain_cmp (insert_key plain_cmp (map plain_name keys) (plain_name k)) (map plain_name ks) ≡ option_map (map plain_name) (gathered_keys name_cmp (insert_key name_cmp keys k) ks)
-          = ap (λ zs. gathered_keys plain_cmp zs (map plain_name ks)) (insert_plain k keys) ∙ gathered_plain (insert_key name_cmp keys k) ks in
+    = ap (λ zs. gathered_keys plain_cmp zs (map plain_name ks)) (insert_plain k keys) ∙ gathered_plain (insert_key name_cmp keys k) ks in
     go (list_any (is_at (plain_cmp (plain_name k))) (map plain_name keys)) (list_any (is_at (name_cmp k)) keys) (any_plain k keys) _ _ rest
   where
     go : (b c : Bool) → b ≡ c → (x : Option (List PlainName)) (y : Option (List ShardName)) → x ≡ option_map (map plain_name) y → cond b None x ≡ option_map (map plain_name) (cond c None y)
@@ -159,8 +159,8 @@ insert_entry_plain n p [] = refl
 insert_entry_plain n p (e ∷ es) = go (name_cmp n e.0) (insert_entry_plain n p es)
   where
     go : (o : Ordering) → insert_entry plain_cmp (map plain_entry es) (plain_name n) p ≡ map plain_entry (insert_entry name_cmp es n p)
-      → match_ordering o ((plain_name n, p) ∷ plain_entry e ∷ map plain_entry es) ((plain_name e.0, p) ∷ map plain_entry es) (plain_entry e ∷ insert_entry plain_cmp (map plain_entry es) (plain_name n) p)
-      ≡ map plain_entry (match_ordering o ((n, p) ∷ e ∷ es) ((e.0, p) ∷ es) (e ∷ insert_entry name_cmp es n p))
+        → match_ordering o ((plain_name n, p) ∷ plain_entry e ∷ map plain_entry es) ((plain_name e.0, p) ∷ map plain_entry es) (plain_entry e ∷ insert_entry plain_cmp (map plain_entry es) (plain_name n) p)
+        ≡ map plain_entry (match_ordering o ((n, p) ∷ e ∷ es) ((e.0, p) ∷ es) (e ∷ insert_entry name_cmp es n p))
     go Less later = refl
     go Equal later = refl
     go Greater later = ap (λ zs. plain_entry e ∷ zs) later
@@ -169,7 +169,7 @@ pub gathered_entries_plain : (es xs : List (ShardName × Position)) → gathered
 gathered_entries_plain es [] = refl
 gathered_entries_plain es (x ∷ xs) =
     let rest : gathered_entries plain_cmp (insert_entry plain_cmp (map plain_entry es) (plain_name x.0) x.1) (map plain_entry xs) ≡ option_map (map plain_entry) (gathered_entries name_cmp (insert_entry name_cmp es x.0 x.1) xs)
-          = ap (λ zs. gathered_entries plain_cmp zs (map plain_entry xs)) (insert_entry_plain x.0 x.1 es) ∙ gathered_entries_plain (insert_entry name_cmp es x.0 x.1) xs in
+    = ap (λ zs. gathered_entries plain_cmp zs (map plain_entry xs)) (insert_entry_plain x.0 x.1 es) ∙ gathered_entries_plain (insert_entry name_cmp es x.0 x.1) xs in
     go (is_some (lookup (is_at (plain_cmp (plain_name x.0))) (map plain_entry es))) (is_some (lookup (is_at (name_cmp x.0)) es)) (ap is_some (lookup_plain x.0 es)) _ _ rest
   where
     go : (b c : Bool) → b ≡ c → (x : Option (List (PlainName × Position))) (y : Option (List (ShardName × Position))) → x ≡ option_map (map plain_entry) y → cond b None x ≡ option_map (map plain_entry) (cond c None y)
@@ -191,7 +191,7 @@ named_so size id (p ∷ ps) [] some others = absurd (others refl)
 named_so size id (p ∷ ps) (s ∷ ss) some others =
     ap (λ o. by_order id o (gathered_entries plain_cmp [] (map plain_successor (s ∷ ss)))) (gathered_plain [] (p ∷ ps))
     ∙ ap (λ o. by_order id (option_map (map plain_name) (gathered_keys name_cmp [] (p ∷ ps))) o)
-      (ap (gathered_entries plain_cmp []) (successors_plain (s ∷ ss)) ∙ gathered_entries_plain [] (map entry_of (s ∷ ss)))
+    (ap (gathered_entries plain_cmp []) (successors_plain (s ∷ ss)) ∙ gathered_entries_plain [] (map entry_of (s ∷ ss)))
 
 few : (a b : ℕ) (j : PlainJournal) → a ≤ 64 → b ≤ 64 → cond (nat_le a 64 && nat_le b 64) (Ok j) (Err TooManyNames) ≡ Ok j
 few a b j h k = ap (λ v. cond v (Ok j) (Err TooManyNames)) (and_from (nat_le a 64) (nat_le b 64) (le-leb a 64 h) (le-leb b 64 k))

@@ -9,7 +9,6 @@ use Rattle.vs_journal.specs.declared.escape.Escape.TheVariants.{Stands, Unknown,
 use Rattle.vs_journal.specs.Tokens.{NextToken, escaped, gap_behind, is_identifier_byte, mark_of, next_token, number_token, past_gap, past_run, place_left, placed_token, string_from, string_token, token_at, token_in, tokens_from, with_first, with_token}
 use Rattle.vs_journal.specs.Grammar.{behind_token, run_ended, run_tokens, state_behind}
 use Rattle.vs_journal.specs.declared.token.Token.{Token}
-use Rattle.vs_journal.specs.declared.token.Token.TheVariants.{Faulty}
 use Rattle.vs_journal.specs.declared.parsed.ParsedJournal.{ParsedJournal}
 use Rattle.vs_journal.specs.declared.state.TextState.{TextState}
 

@@ -1,11 +1,11 @@
 -- A text says a journal exactly where its tokens are one, and none from the first token with which none goes on.
 use Rattle.std.proofs.Common.{◌≡◌, ◌∙◌, ◌++◌, ◌-◌, ◌<◌, ◌≤◌, ℕ, zero, suc, Bool, true, List, [], ◌∷◌, Option, Some, None, Result, Ok, Err, length, refl, ap, sym, arith, cond}
 use Rattle.std.specs.Option.{option_and_then}
-use Rattle.vs_journal.specs.Grammar.{first_state, journal_at, parsed_journal, run_ended, set_text, state_behind, with_current, with_member, whole_journal}
-use Rattle.vs_journal.specs.Productions.{BeginsWithTokens, IsJournal, IsJournalText, IsNoJournalFrom, JournalsAreProductions, place_in_text}
+use Rattle.vs_journal.specs.Grammar.{first_state, journal_at, parsed_journal, state_behind, with_member, whole_journal}
+use Rattle.vs_journal.specs.Productions.{BeginsWithTokens, IsJournalText, IsNoJournalFrom, JournalsAreProductions, place_in_text}
 use Rattle.vs_journal.specs.Tokens.{NextToken, next_token}
 use Rattle.vs_journal.specs.declared.token.Bracket.{Bracket}
-use Rattle.vs_journal.specs.declared.token.Bracket.TheVariants.{Curly, Angle}
+use Rattle.vs_journal.specs.declared.token.Bracket.TheVariants.{Curly}
 use Rattle.vs_journal.specs.declared.token.Token.{Token}
 use Rattle.vs_journal.specs.declared.token.Token.TheVariants as token
 use Rattle.vs_journal.specs.declared.parsed.ParsedJournal.{ParsedJournal}

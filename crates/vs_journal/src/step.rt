@@ -464,7 +464,10 @@ fn kind_valued(state: TextState, token: &Token) -> Option<TextState>
 {
     match token {
         Token::Word(name) => Some(with_kind(state, kind_named(name.as_bytes())?)),
-        Token::Number { negative, size } => Some(with_kind(state, kind_numbered(*negative, *size)?)),
+        Token::Number { negative, size } => Some(with_kind(
+            state,
+            kind_numbered(*negative, *size)?,
+        )),
         _ => None,
     }
 }

@@ -1,15 +1,18 @@
 use crate::{
-    Entry, JournalRefusal, JournalValue, Work, law_few_names, law_names, read_text, write_text,
+    Entry, JournalRefusal, JournalValue, Work, law_few_names, law_journal_texts, law_names,
+    read_text, write_text,
 };
 use std::alloc::Global;
 use std::test::Fail;
 use vs_base::{Gtid, List, OutOfMemory};
 
 /// The journal of a split of c/-80, with its successors in descending order.
-const SPLIT: &[u8] = b"participants <keyspace: 'c' shard: '-8' '0'>; # comes first\nmigration_type: 1, shard_gtids {shard: '40-80' keyspace: 'c' gtid: '00000000-0000-0000-0000-00000000000D:1'}\nshard_gtids {gtid: 'MySQL56/00000000-0000-0000-0000-00000000000b:1' keyspace: 'c' shard: '-\\x340'} id: 7";
+const SPLIT: &[u8] =
+    b"participants <keyspace: 'c' shard: '-8' '0'>; # comes first\nmigration_type: 1, shard_gtids {shard: '40-80' keyspace: 'c' gtid: '00000000-0000-0000-0000-00000000000D:1'}\nshard_gtids {gtid: 'MySQL56/00000000-0000-0000-0000-00000000000b:1' keyspace: 'c' shard: '-\\x340'} id: 7";
 
 /// The same as it is written.
-const SPLIT_WRITTEN: &[u8] = b"id:7 migration_type:SHARDS shard_gtids:{keyspace:\"c\" shard:\"-40\" gtid:\"MySQL56/00000000-0000-0000-0000-00000000000b:1\"} shard_gtids:{keyspace:\"c\" shard:\"40-80\" gtid:\"MySQL56/00000000-0000-0000-0000-00000000000d:1\"} participants:{keyspace:\"c\" shard:\"-80\"}";
+const SPLIT_WRITTEN: &[u8] =
+    b"id:7 migration_type:SHARDS shard_gtids:{keyspace:\"c\" shard:\"-40\" gtid:\"MySQL56/00000000-0000-0000-0000-00000000000b:1\"} shard_gtids:{keyspace:\"c\" shard:\"40-80\" gtid:\"MySQL56/00000000-0000-0000-0000-00000000000d:1\"} participants:{keyspace:\"c\" shard:\"-80\"}";
 
 /// What a text says.
 #[derive(Debug, Clone, Copy, PartialEq, Eq)]
@@ -308,6 +311,7 @@ fn an_entry_may_tell_a_journal(rt: HostRuntime) -> Result<(), Fail> {
     };
     law_names();
     law_few_names();
+    law_journal_texts();
     let copy = entry.copy(alloc)?;
     assert_eq!(rt; copy.gtid, entry.gtid);
     assert!(rt; matches!(&copy.work, Work::Journal(told) if told.id == 7));
@@ -326,14 +330,23 @@ fn a_split_is_read_and_written(rt: HostRuntime) -> Result<(), Fail> {
     let alloc = rt.alloc();
     assert_eq!(rt; rewritten(alloc, SPLIT)?.as_slice(), SPLIT_WRITTEN);
     assert_eq!(rt; rewritten(alloc, SPLIT_WRITTEN)?.as_slice(), SPLIT_WRITTEN);
-    assert_eq!(rt; rewritten(alloc, b"id:-7 participants{}")?.as_slice(), b"id:-7 migration_type:TABLES".as_slice());
+    assert_eq!(rt;
+        rewritten(alloc, b"id:-7 participants{}")?.as_slice(),
+        b"id:-7 migration_type:TABLES".as_slice()
+    );
     Ok(())
 }
 
 #[test]
 fn at_most_64_names(rt: HostRuntime) -> Result<(), Fail> {
     let alloc = rt.alloc();
-    assert_eq!(rt; told_by(alloc, many_participants(alloc, 64)?.as_slice()), Says::Journal);
-    assert_eq!(rt; told_by(alloc, many_participants(alloc, 65)?.as_slice()), Says::TooManyNames);
+    assert_eq!(rt;
+        told_by(alloc, many_participants(alloc, 64)?.as_slice()),
+        Says::Journal
+    );
+    assert_eq!(rt;
+        told_by(alloc, many_participants(alloc, 65)?.as_slice()),
+        Says::TooManyNames
+    );
     Ok(())
 }

@@ -75,7 +75,11 @@ fn put_gtid(alloc: Global, position: &GtidSet, text: &mut Vec<u8>) -> Result<(),
     Ok(())
 }
 
-fn put_successor(alloc: Global, successor: &Successor, text: &mut Vec<u8>) -> Result<(), OutOfMemory>
+fn put_successor(
+    alloc: Global,
+    successor: &Successor,
+    text: &mut Vec<u8>,
+) -> Result<(), OutOfMemory>
     ensures { OnOk result (text.new.items ≡ text.old.items ++ successor_text (plain_successor successor.now)) }
 {
     text.extend_from_slice(b" shard_gtids:{")?;

@@ -1,4 +1,4 @@
-use Rattle.std.proofs.Common.{◌≡◌, ◌≤◌, ◌∙◌, Ok, Some, ap, arith, length, map, sym}
+use Rattle.std.proofs.Common.{◌≤◌, ◌∙◌, Ok, Some, ap, arith, length, map, sym}
 use Rattle.std.specs.Prelude.{option_map}
 use Rattle.std.proofs.Math.Facts.{to_z-of_z}
 use Rattle.vs_journal.specs.Judgement.{by_order, plain_name, shards_journal}

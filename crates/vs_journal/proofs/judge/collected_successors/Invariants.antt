@@ -1,4 +1,4 @@
-use Rattle.std.proofs.Common.{◌≡◌, ◌++◌, map}
+use Rattle.std.proofs.Common.{◌≡◌, map}
 use Rattle.vs_journal.specs.NameOrder.{entry_of}
 use Rattle.vs_journal.proofs.judge.collected_successors.Given as goal
 

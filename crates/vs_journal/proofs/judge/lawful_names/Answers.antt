@@ -16,7 +16,7 @@ loop-member-preserved c =
     let pushed : c.push.new.self.items ≡ c.loop-member.names.items ++ c.in-Some.name ∷ [] = c.in_ok-push-in-Some.ensures.items in
     ap (λ zs. option_map (λ ys. zs ++ ys) (all_some lawful_name (drop (i + 1) ms))) (ap (map plain_name) pushed ∙ map_pushed plain_name c.loop-member.names.items c.in-Some.name)
     ∙ gone_on lawful_name (map plain_name c.loop-member.names.items) ms i c.member-item.result (plain_name c.in-Some.name) c.loop-member-test.true c.member-item.is
-      (sym c.in_ok-name.ensures ∙ ap (option_map plain_name) c.in-Some.is) c.loop-member.invariant
+    (sym c.in_ok-name.ensures ∙ ap (option_map plain_name) c.in-Some.is) c.loop-member.invariant
 
 pub returns : goal.returns
 returns c = came_to_end lawful_name (map plain_name c.loop-member.names.items) c.args.members.now c.loop-member.member-index (omega arith) c.loop-member.invariant

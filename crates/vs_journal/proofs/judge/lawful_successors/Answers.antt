@@ -16,7 +16,7 @@ loop-member-preserved c =
     let pushed : c.push.new.self.items ≡ c.loop-member.successors.items ++ c.in-Some.successor ∷ [] = c.in_ok-push-in-Some.ensures.items in
     ap (λ zs. option_map (λ ys. zs ++ ys) (all_some lawful_successor (drop (i + 1) ms))) (ap (map plain_successor) pushed ∙ map_pushed plain_successor c.loop-member.successors.items c.in-Some.successor)
     ∙ gone_on lawful_successor (map plain_successor c.loop-member.successors.items) ms i c.member-item.result (plain_successor c.in-Some.successor) c.loop-member-test.true c.member-item.is
-      (sym c.in_ok-successor.ensures ∙ ap (option_map plain_successor) c.in-Some.is) c.loop-member.invariant
+    (sym c.in_ok-successor.ensures ∙ ap (option_map plain_successor) c.in-Some.is) c.loop-member.invariant
 
 pub returns : goal.returns
 returns c = came_to_end lawful_successor (map plain_successor c.loop-member.successors.items) c.args.members.now c.loop-member.member-index (omega arith) c.loop-member.invariant

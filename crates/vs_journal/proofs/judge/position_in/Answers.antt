@@ -1,4 +1,4 @@
-use Rattle.std.proofs.Common.{◌≡◌, ◌∙◌, false, length, rules, sym, arith}
+use Rattle.std.proofs.Common.{◌≡◌, false, length, rules, arith}
 use Rattle.std.proofs.lemmas.Grind.{common_steps}
 use Rattle.vs_journal.specs.Refusals.{is_want_of_memory}
 use Rattle.vs_journal.proofs.JudgeLemmas.{position_read, position_refused}

@@ -1,4 +1,4 @@
-use Rattle.std.proofs.Common.{◌≡◌, ◌∙◌, ap, map}
+use Rattle.std.proofs.Common.{◌∙◌, ap, map}
 use Rattle.std.proofs.Math.Facts.{to_z-of_z}
 use Rattle.vs_journal.specs.Judgement.{plain_name, plain_successor, shards_journal}
 use Rattle.vs_journal.specs.NameOrder.{plain_entry}
