@@ -4,7 +4,7 @@ use Rattle.std.specs.Prelude.{option_map, is_some}
 use Rattle.std.specs.List.{concat}
 use Rattle.std.specs.Option.{option_and_then}
 use Rattle.std.proofs.lemmas.Bool.{lt-ltb}
-use Rattle.vs_journal.specs.Grammar.{journal_at, journal_field, member_field, no_member, set_text, state_behind, with_member}
+use Rattle.vs_journal.specs.Grammar.{journal_at, no_member, set_text, state_behind, with_member, same_bracket}
 use Rattle.vs_journal.specs.Productions.{AreFields, AreMoreItems, IsItemList, IsJournalField, IsMember, IsMemberField, IsOptionalColon, IsScalar, IsSeparator, IsUnknownValue, JournalSetting, SetsId, SetsKind, NamesMember, SaysNothing, is_text_field, journal_with, kind_in, member_with, settled, field_naming}
 use Rattle.vs_journal.specs.declared.token.Bracket.{Bracket}
 use Rattle.vs_journal.specs.declared.token.Bracket.TheVariants.{Curly, Angle}
@@ -107,9 +107,6 @@ same_current (Some o) = refl
 
 -- ---- strings, scalars and lists of unknown fields
 
-pub bytes_of : List (List ℕ) → List Token
-bytes_of bs = map (λ c. token.Bytes c) bs
-
 unknown_strings : (j : ParsedJournal) (c : Option OpenMember) (p : List Bracket) (bs : List (List ℕ)) (ts : List Token) → accept (at j c p (BehindText field.Unknown)) (map (λ c. token.Bytes c) bs ++ ts) ≡ accept (at j c p (BehindText field.Unknown)) ts
 unknown_strings j c p [] ts = refl
 unknown_strings j c p (b ∷ bs) ts = ap (λ d. accept (at j d p (BehindText field.Unknown)) (map (λ c. token.Bytes c) bs ++ ts)) (same_current c) ∙ unknown_strings j c p bs ts
@@ -196,7 +193,7 @@ fields_accepted jf cf p F set one (s ∷ settings) x ts tail h follows =
 
 -- ---- unknown values
 
-pub same_brackets : (b : Bracket) → Rattle.vs_journal.specs.Grammar.same_bracket b b ≡ true
+pub same_brackets : (b : Bracket) → same_bracket b b ≡ true
 same_brackets Curly = refl
 same_brackets Angle = refl
 

@@ -1,5 +1,5 @@
 -- A text says a journal exactly where its tokens are one, and none from the first token with which none goes on.
-use Rattle.std.proofs.Common.{◌≡◌, ◌∙◌, ◌++◌, ◌-◌, ◌<◌, ◌≤◌, ℕ, zero, suc, Bool, true, List, [], ◌∷◌, Option, Some, None, Result, Ok, Err, length, refl, ap, sym, arith, cond}
+use Rattle.std.proofs.Common.{◌≡◌, ◌∙◌, ◌++◌, ◌<◌, ◌≤◌, ℕ, zero, suc, true, List, [], ◌∷◌, Option, Some, None, Result, Ok, Err, length, refl, ap, sym, arith, cond, append-nil, false, subst}
 use Rattle.std.specs.Option.{option_and_then}
 use Rattle.vs_journal.specs.Grammar.{first_state, journal_at, parsed_journal, state_behind, with_member, whole_journal}
 use Rattle.vs_journal.specs.Productions.{BeginsWithTokens, IsJournalText, IsNoJournalFrom, JournalsAreProductions, place_in_text}
@@ -9,6 +9,7 @@ use Rattle.vs_journal.specs.declared.token.Bracket.TheVariants.{Curly}
 use Rattle.vs_journal.specs.declared.token.Token.{Token}
 use Rattle.vs_journal.specs.declared.token.Token.TheVariants as token
 use Rattle.vs_journal.specs.declared.parsed.ParsedJournal.{ParsedJournal}
+use Rattle.vs_journal.specs.declared.state.FieldName.{FieldName}
 use Rattle.vs_journal.specs.declared.state.FieldName.TheVariants as field
 use Rattle.vs_journal.specs.declared.state.Awaits.{Awaits}
 use Rattle.vs_journal.specs.declared.state.Awaits.TheVariants.{Name, Behind, BehindText, BehindName, Value, FirstItem, Item, BehindItem, BehindItemText}
@@ -39,12 +40,12 @@ behind_it t s u h later = (t ∷ later.0, later.1, ap (option_and_then (λ v. ac
 ends_from_behind : (j : ParsedJournal) (c : Option OpenMember) (p : List Bracket) → CanEnd (at j c p Behind)
 ends_from_behind j c p = behind_it token.Comma (at j c p Behind) (at j c p Name) refl (ends_from_name j c p)
 
-ends_from_text : (f : Rattle.vs_journal.specs.declared.state.FieldName.FieldName) (j : ParsedJournal) (c : Option OpenMember) (p : List Bracket) → CanEnd (at j c p (BehindText f))
+ends_from_text : (f : FieldName) (j : ParsedJournal) (c : Option OpenMember) (p : List Bracket) → CanEnd (at j c p (BehindText f))
 ends_from_text f j c p = behind_it token.Comma (at j c p (BehindText f)) (at j c p Name) refl (ends_from_name j c p)
 
-ends_from_value : (f : Rattle.vs_journal.specs.declared.state.FieldName.FieldName) (j : ParsedJournal) (c : Option OpenMember) (p : List Bracket) → CanEnd (at j c p (Value f))
+ends_from_value : (f : FieldName) (j : ParsedJournal) (c : Option OpenMember) (p : List Bracket) → CanEnd (at j c p (Value f))
 ends_from_value field.Id j c p = behind_it (token.Number true (Some 0)) (at j c p (Value field.Id)) _ refl (ends_from_behind _ c p)
-ends_from_value field.MigrationType j c p = behind_it (token.Number Rattle.std.proofs.Common.false (Some 0)) (at j c p (Value field.MigrationType)) _ refl (ends_from_behind _ c p)
+ends_from_value field.MigrationType j c p = behind_it (token.Number false (Some 0)) (at j c p (Value field.MigrationType)) _ refl (ends_from_behind _ c p)
 ends_from_value field.ShardGtids j c p = behind_it (token.Open Curly) (at j c p (Value field.ShardGtids)) (at j (Some (open_member role.Successor Curly no_member)) p Name) refl (ends_from_name j (Some (open_member role.Successor Curly no_member)) p)
 ends_from_value field.Participants j c p = behind_it (token.Open Curly) (at j c p (Value field.Participants)) (at j (Some (open_member role.Participant Curly no_member)) p Name) refl (ends_from_name j (Some (open_member role.Participant Curly no_member)) p)
 ends_from_value field.Keyspace j c p = behind_it (token.Bytes []) (at j c p (Value field.Keyspace)) _ refl (ends_from_text field.Keyspace j _ p)
@@ -102,13 +103,13 @@ run_ends s size text (Some j) e k = ([], text, refl, e, k)
 
 run_fits : (size : ℕ) (text : List ℕ) (s : TextState) (n : ℕ) (next : NextToken) (o : Option TextState) → length text ≤ n → next_token text ≡ Some next → state_behind s next.1.0 ≡ o → ((u : TextState) (m : ℕ) → length next.1.1 ≤ m → Runs u size next.1.1 (meant_from u m size next.1.1)) → Runs s size text (meant_from s n size text)
 run_fits size text s n next None few e fits later =
-    Rattle.std.proofs.Common.subst (Runs s size text) (sym (meant-stopped s n size text next e fits few)) ([], text, s, refl, refl, Some next, e, fits, refl)
+    subst (Runs s size text) (sym (meant-stopped s n size text next e fits few)) ([], text, s, refl, refl, Some next, e, fits, refl)
 run_fits size text s n next (Some u) few e fits later =
     let more = meant-more s u n size text next e fits few in
-    Rattle.std.proofs.Common.subst (Runs s size text) more.2 (run_more s u size text next (meant_from u more.0 size next.1.1) e fits (later u more.0 more.1))
+    subst (Runs s size text) more.2 (run_more s u size text next (meant_from u more.0 size next.1.1) e fits (later u more.0 more.1))
 
 run_next : (size : ℕ) (text : List ℕ) (s : TextState) (n : ℕ) (o : Option NextToken) → length text ≤ n → next_token text ≡ o → ((rest : List ℕ) → length rest < length text → (u : TextState) (m : ℕ) → length rest ≤ m → Runs u size rest (meant_from u m size rest)) → Runs s size text (meant_from s n size text)
-run_next size text s n None few e later = Rattle.std.proofs.Common.subst (Runs s size text) (sym (meant-ended s n size text e)) (run_ends s size text (journal_at s) e refl)
+run_next size text s n None few e later = subst (Runs s size text) (sym (meant-ended s n size text e)) (run_ends s size text (journal_at s) e refl)
 run_next size text s n (Some next) few e later = run_fits size text s n next (state_behind s next.1.0) few e refl (later next.1.1 (leaves_less text next e).0)
 
 runs : (k size : ℕ) (text : List ℕ) (s : TextState) (n : ℕ) → length text < k → length text ≤ n → Runs s size text (meant_from s n size text)
@@ -162,7 +163,7 @@ none_so text spot (Err place) e h =
           let none = ap (option_and_then (λ v. accept v more)) (blocked u next h.5 (sym h.6 ∙ next_is) h.7) in
           let clash : Some j ≡ None = taken ∙ none in cc;
       none = λ none_is j is.
-          let whole = sym (journal_taken ts j is) ∙ ap (accept first_state) (sym (Rattle.std.proofs.Common.append-nil ts)) ∙ accept_behind ts [] first_state u h.4 in
+          let whole = sym (journal_taken ts j is) ∙ ap (accept first_state) (sym (append-nil ts)) ∙ accept_behind ts [] first_state u h.4 in
           let clash : Some j ≡ None = whole ∙ blocked_end u h.5 (sym h.6 ∙ none_is) h.7 in cc;
       place = sym same ∙ h.8 ∙ ap (place_in_text (length text)) (sym h.6);
     }
