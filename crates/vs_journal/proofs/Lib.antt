@@ -1,1 +1,9 @@
 pub mod NameLemmas
+pub mod ScanLemmas
+pub mod JudgeLemmas
+pub mod ReadLemmas
+pub mod WriteLemmas
+pub mod AcceptLaws
+pub mod FindLaws
+pub mod JournalLaws
+pub mod TextLaws

@@ -1,6 +1,7 @@
 //! What journals keep to, as contracts of functions that do nothing.
 ghost use Rattle.vs_gtid.specs.declared.journal.JournalValue.{JournalValue};
 ghost use Rattle.vs_journal.specs.Journals.{HasFewNames, StandOnce, participant_names, successor_names};
+ghost use Rattle.vs_journal.specs.Productions.{JournalsAreProductions};
 
 /// A journal names each participant, and each successor, at one place alone.
 pub fn law_names()
@@ -11,4 +12,10 @@ pub fn law_names()
 /// A journal has at most 64 participants, and at most 64 successors.
 pub fn law_few_names()
     ensures { (j : JournalValue) → HasFewNames j }
+{}
+
+/// A text is read as a journal exactly where the productions say that it is one, and is refused at the
+/// first place from which no journal goes on.
+pub fn law_journal_texts()
+    ensures { JournalsAreProductions }
 {}
