@@ -4,3 +4,4 @@ pub mod SizeLemmas
 pub mod StageLemmas
 pub mod EndLemmas
 pub mod RoomLemmas
+pub mod EventLemmas

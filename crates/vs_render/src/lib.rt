@@ -2,11 +2,22 @@
 //! spelled.
 #![tactic(auto)]
 
+mod body;
+mod events;
 mod laws;
+mod piece;
+mod putting;
 mod refusal;
+mod room;
+mod spelling;
+mod told;
 
+pub use body::Body;
 pub use laws::{law_bodies, law_ends, law_groups};
+pub use piece::{EndCause, Piece};
+pub use putting::put_frame_with;
 pub use refusal::RenderRefusal;
+pub use room::Room;
 
 /// The one fault of a call that only takes memory.
 pub type OutOfMemory = std::alloc::AllocError;
