@@ -22,10 +22,10 @@ use Rattle.vs_model.specs.Copy.{picked, picked_work}
 use Rattle.vs_filter.specs.declared.bound.Picked.{Picked}
 use Rattle.vs_filter.specs.Picks.{bound_in}
 use Rattle.vs_render.specs.Groups.{at_last}
-use Rattle.vs_render.specs.Events.{EventHead, Saying, VectorAfter, Commits, Telling, event_of, head_of, closing_said, chunk_said}
+use Rattle.vs_render.specs.Events.{EventHead, Saying, Begins, Changed, Columns, VectorAfter, Statement, OtherStatement, Commits, Telling, event_of, head_of, closing_said, chunk_said, copied_row}
 use Rattle.vs_render.specs.Spelling.{said_bytes}
 use Rattle.vs_render.specs.Frames.{frame_bytes, fronts_said}
-use Rattle.vs_render.specs.Bodies.{chunk_body, columns_in, entry_body, frame_with, picked_work_in, rendered}
+use Rattle.vs_render.specs.Bodies.{Rendered, body_of, chunk_body, columns_in, entry_body, frame_with, picked_work_in, rendered}
 use Rattle.vs_render.specs.Laws.{BodiesMakeFrames, ChunksMakeFrames}
 
 -- each event is a field of the message
@@ -96,3 +96,54 @@ pub chunks : ChunksMakeFrames
 chunks t tables s table rows time v fields =
     frame_is (head_of s time) v (chunk_said (t.fields s) table rows ∷ []) Commits
     ∙ ap (λ f. frame_with (head_of s time) v (rendered (head_of s time) (chunk_said f table rows ∷ []) Commits)) fields
+
+-- two events, one behind the other
+pub both_events : (h : EventHead) (first second : Saying) (old middle new : List ℕ) (column row : VEvent) → column ≡ event_of h first → row ≡ event_of h second →
+    middle ≡ old ++ events_bytes (column ∷ []) → new ≡ middle ++ events_bytes (row ∷ []) → new ≡ old ++ said_bytes h (first ∷ (second ∷ []))
+both_events h first second old middle new column row a b d e =
+    e ∙ ap₂ (λ (bs : List ℕ) (m : VEvent). bs ++ events_bytes (m ∷ [])) d b
+    ∙ ap (λ (m : VEvent). (old ++ events_bytes (m ∷ [])) ++ said_bytes h (second ∷ [])) a
+    ∙ append_assoc old (said_bytes h (first ∷ [])) (said_bytes h (second ∷ []))
+    ∙ ap (λ (bs : List ℕ). old ++ bs) (sym (said_append h (first ∷ []) (second ∷ [])))
+
+-- no events have no bytes
+pub none_said : (h : EventHead) → said_bytes h [] ≡ []
+unfolding response spelling
+none_said h = refl
+
+-- ---- the rows of a copy, one by one
+
+pub chunk_begun : (h : EventHead) (fields : List ℕ → List Column) (table : List ℕ) (rows : List (List Cell)) (old middle new : List ℕ) (begin column : VEvent) →
+    old ≡ [] → begin ≡ event_of h Begins → column ≡ event_of h (Columns table (fields table)) → middle ≡ old ++ events_bytes (begin ∷ []) → new ≡ middle ++ events_bytes (column ∷ []) →
+    said_bytes h (chunk_said fields table rows) ≡ new ++ said_bytes h (map (λ row. Changed (copied_row table row)) rows)
+chunk_begun h fields table rows old middle new begin column none a b d e =
+    said_append h (Begins ∷ (Columns table (fields table) ∷ [])) (map (λ row. Changed (copied_row table row)) rows)
+    ∙ ap (λ (bs : List ℕ). bs ++ said_bytes h (map (λ row. Changed (copied_row table row)) rows))
+    (sym (both_events h Begins (Columns table (fields table)) old middle new begin column a b d e ∙ ap (λ (bs : List ℕ). bs ++ said_bytes h (Begins ∷ (Columns table (fields table) ∷ []))) none))
+
+pub chunk_more : (h : EventHead) (table : List ℕ) (row : List Cell) (rows left : List (List Cell)) (all old new : List ℕ) →
+    all ≡ old ++ said_bytes h (map (λ row. Changed (copied_row table row)) rows) → rows ≡ row ∷ left → new ≡ old ++ said_bytes h (Changed (copied_row table row) ∷ []) →
+    all ≡ new ++ said_bytes h (map (λ row. Changed (copied_row table row)) left)
+chunk_more h table row rows left all old new before is put =
+    before ∙ ap (λ (rs : List (List Cell)). old ++ said_bytes h (map (λ row. Changed (copied_row table row)) rs)) is
+    ∙ ap (λ (bs : List ℕ). old ++ bs) (said_append h (Changed (copied_row table row) ∷ []) (map (λ row. Changed (copied_row table row)) left))
+    ∙ sym (append_assoc old (said_bytes h (Changed (copied_row table row) ∷ [])) (said_bytes h (map (λ row. Changed (copied_row table row)) left)))
+    ∙ ap (λ (bs : List ℕ). bs ++ said_bytes h (map (λ row. Changed (copied_row table row)) left)) (sym put)
+
+pub chunk_done : (h : EventHead) (table : List ℕ) (rows : List (List Cell)) (all old : List ℕ) → all ≡ old ++ said_bytes h (map (λ row. Changed (copied_row table row)) rows) → rows ≡ [] → old ≡ all
+chunk_done h table rows all old before none =
+    sym (before ∙ ap (λ (rs : List (List Cell)). old ++ said_bytes h (map (λ row. Changed (copied_row table row)) rs)) none ∙ ap (λ (bs : List ℕ). old ++ bs) (none_said h) ∙ append-nil old)
+
+-- ---- entries without changes
+
+pub statement_body : (tables : List Picked) (s : ShardName) (e : Entry) (text out : List ℕ) (m : VEvent) → e.work ≡ Ddl text → out ≡ [] → m ≡ event_of (head_of s e.time) (Statement text) →
+    body_of out (events_bytes (m ∷ [])) ≡ entry_body tables s e
+statement_body tables s e text out m is none event =
+    ap₂ (λ (front : List ℕ) (x : VEvent). body_of front (events_bytes (x ∷ []))) (none ∙ sym (none_said (head_of s e.time))) event
+    ∙ sym (ap (λ w. rendered (head_of s e.time) (fronts_said (head_of s e.time) (columns_in tables) (picked_work_in tables w)) (closing_said w)) is)
+
+pub other_body : (tables : List Picked) (s : ShardName) (e : Entry) (out : List ℕ) (m : VEvent) → e.work ≡ Other → out ≡ [] → m ≡ event_of (head_of s e.time) OtherStatement →
+    body_of out (events_bytes (m ∷ [])) ≡ entry_body tables s e
+other_body tables s e out m is none event =
+    ap₂ (λ (front : List ℕ) (x : VEvent). body_of front (events_bytes (x ∷ []))) (none ∙ sym (none_said (head_of s e.time))) event
+    ∙ sym (ap (λ w. rendered (head_of s e.time) (fronts_said (head_of s e.time) (columns_in tables) (picked_work_in tables w)) (closing_said w)) is)

@@ -5,3 +5,4 @@ pub mod StageLemmas
 pub mod EndLemmas
 pub mod RoomLemmas
 pub mod EventLemmas
+pub mod TakeLemmas

@@ -251,13 +251,13 @@ pub written_of : (h : EventHead) (said : List (List Saying)) (closing : Saying) 
 written_of h said closing lengths bytes counts are within = record {
   body_is =
       ap₂ body_in counts are
-      ∙ ap₂ (λ (fronts : List (List ℕ)) (end : List ℕ). body_of fronts end) (pieces_are h said (said_bytes h (closing ∷ []))) (behind_are h said (said_bytes h (closing ∷ [])));
+      ∙ ap₂ (λ (fronts : List (List ℕ)) (end : List ℕ). both fronts end) (pieces_are h said (said_bytes h (closing ∷ []))) (behind_are h said (said_bytes h (closing ∷ [])));
   within = sizes_are h said (said_bytes h (closing ∷ [])) (λ n. n ≤ most_body) (subst (λ ns. All (λ n. n + length (said_bytes h (closing ∷ [])) ≤ most_body) ns) counts within);
   lengths_fit = fit_along (total_length lengths) (total_length (map (λ m. length (said_bytes h m)) said)) (length bytes) (length (flat_map (said_bytes h) said ++ said_bytes h (closing ∷ []))) (ap total_length counts) (ap (λ (bs : List ℕ). length bs) are) (total_is h said (said_bytes h (closing ∷ [])));
 }
   where
-    body_of : List (List ℕ) → List ℕ → Rendered
-    body_of fronts end = record { fronts = fronts; closing = end }
+    both : List (List ℕ) → List ℕ → Rendered
+    both fronts end = record { fronts = fronts; closing = end }
     fit_along : (a b c d : ℕ) → a ≡ b → c ≡ d → b ≤ d → a ≤ c
     fit_along a b c d e f h = omega arith
 

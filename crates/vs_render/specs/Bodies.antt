@@ -71,6 +71,10 @@ chunk_body tables s table rows time = rendered (head_of s time) (chunk_said (col
 abbrev pub changes_body : EventHead → (List ℕ → List Column) → List Change → Rendered
 changes_body h fields changes = rendered h (groups_said fields true (grouped (is_over h fields) changes)) Commits
 
+-- a body of one message
+abbrev pub body_of : List ℕ → List ℕ → Rendered
+body_of front closing = record { fronts = front ∷ []; closing = closing }
+
 -- ---- in a room
 
 -- so many bytes each of these

@@ -3,11 +3,14 @@
 #![tactic(auto)]
 
 mod body;
+mod changes;
 mod events;
+mod groups;
 mod laws;
 mod piece;
 mod putting;
 mod refusal;
+mod rendering;
 mod room;
 mod spelling;
 mod told;
@@ -17,6 +20,7 @@ pub use laws::{law_bodies, law_ends, law_groups};
 pub use piece::{EndCause, Piece};
 pub use putting::put_frame_with;
 pub use refusal::RenderRefusal;
+pub use rendering::{render, render_chunk};
 pub use room::Room;
 
 /// The one fault of a call that only takes memory.
