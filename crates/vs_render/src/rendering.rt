@@ -3,6 +3,7 @@ ghost use Rattle.std.specs.Prelude.{◌≡◌, ◌++◌, IfErr, IfOk, OnOk, [], 
 ghost use Rattle.vs_pool.specs.Buffers.{emptied};
 ghost use Rattle.vs_proto.specs.Frames.{events_bytes};
 ghost use Rattle.vs_render.specs.Bodies.{
+  IsWithin,
   IsWritten,
   body_of,
   chunk_body,
@@ -79,6 +80,7 @@ pub fn render(
     mut room: Room,
 ) -> Result<Body, (Room, RenderRefusal)>
     ensures body { IfOk result (λ b. b ≡ held_body room.buf.size (entry_body bound.now.tables name.now entry.now)) }
+    ensures within { OnOk result (IsWithin (entry_body bound.now.tables name.now entry.now)) }
     ensures empty { IfErr result (λ e. (e.0.buf ≡ emptied room.buf.size) × (e.0.rest.items ≡ [])) }
     ensures refused { IfErr result (λ e. RefusalIs (entry_body bound.now.tables name.now entry.now) e.1) }
 {
@@ -161,6 +163,7 @@ pub fn render_chunk(
     mut room: Room,
 ) -> Result<Body, (Room, RenderRefusal)>
     ensures body { IfOk result (λ b. b ≡ held_body room.buf.size (chunk_body bound.now.tables name.now table.now rows.now time)) }
+    ensures within { OnOk result (IsWithin (chunk_body bound.now.tables name.now table.now rows.now time)) }
     ensures empty { IfErr result (λ e. (e.0.buf ≡ emptied room.buf.size) × (e.0.rest.items ≡ [])) }
     ensures refused { IfErr result (λ e. RefusalIs (chunk_body bound.now.tables name.now table.now rows.now time) e.1) }
 {
