@@ -13,6 +13,8 @@ mod refusal;
 mod rendering;
 mod room;
 mod spelling;
+#[cfg(test)]
+mod tests;
 mod told;
 
 pub use body::Body;
