@@ -1,7 +1,7 @@
 -- The bytes of events in a row are those of the events.
 use Rattle.std.proofs.Common.{◌≡◌, ℕ, List, [], ◌∷◌, ◌++◌, map, true, refl, ap, ap₂, sym, ◌∙◌, append_assoc}
 use Rattle.std.proofs.lemmas.List.{append-nil}
-use Rattle.std.specs.List.{flat_map, filter_map}
+use Rattle.std.specs.List.{flat_map}
 use Rattle.vs_base.specs.declared.ShardName.{ShardName}
 use Rattle.vs_base.specs.declared.Cell.{Cell}
 use Rattle.vs_base.specs.declared.Table.{Table}
@@ -17,15 +17,14 @@ use Rattle.vs_proto.specs.Shapes.{spelling}
 use Rattle.vs_proto.specs.Tables.{event, response}
 use Rattle.vs_proto.specs.declared.event.VEvent.{VEvent}
 use Rattle.vs_gtid.specs.Vectors.{Vector}
-use Rattle.vs_model.specs.Frames.Frame.{Tx, Chunk}
-use Rattle.vs_model.specs.Copy.{picked, picked_work}
+use Rattle.vs_model.specs.Copy.{picked_work}
 use Rattle.vs_filter.specs.declared.bound.Picked.{Picked}
 use Rattle.vs_filter.specs.Picks.{bound_in}
 use Rattle.vs_render.specs.Groups.{at_last}
-use Rattle.vs_render.specs.Events.{EventHead, Saying, Begins, Changed, Columns, VectorAfter, Statement, OtherStatement, Commits, Telling, event_of, head_of, closing_said, chunk_said, copied_row}
+use Rattle.vs_render.specs.Events.{EventHead, Saying, Begins, Changed, Columns, VectorAfter, Statement, OtherStatement, Commits, event_of, head_of, closing_said, chunk_said, copied_row}
 use Rattle.vs_render.specs.Spelling.{said_bytes}
-use Rattle.vs_render.specs.Frames.{frame_bytes, fronts_said}
-use Rattle.vs_render.specs.Bodies.{Rendered, body_of, chunk_body, columns_in, entry_body, frame_with, picked_work_in, rendered}
+use Rattle.vs_render.specs.Frames.{fronts_said}
+use Rattle.vs_render.specs.Bodies.{body_of, columns_in, entry_body, frame_with, picked_work_in, rendered}
 use Rattle.vs_render.specs.Laws.{BodiesMakeFrames, ChunksMakeFrames}
 
 -- each event is a field of the message
@@ -97,15 +96,6 @@ chunks t tables s table rows time v fields =
     frame_is (head_of s time) v (chunk_said (t.fields s) table rows ∷ []) Commits
     ∙ ap (λ f. frame_with (head_of s time) v (rendered (head_of s time) (chunk_said f table rows ∷ []) Commits)) fields
 
--- two events, one behind the other
-pub both_events : (h : EventHead) (first second : Saying) (old middle new : List ℕ) (column row : VEvent) → column ≡ event_of h first → row ≡ event_of h second →
-    middle ≡ old ++ events_bytes (column ∷ []) → new ≡ middle ++ events_bytes (row ∷ []) → new ≡ old ++ said_bytes h (first ∷ (second ∷ []))
-both_events h first second old middle new column row a b d e =
-    e ∙ ap₂ (λ (bs : List ℕ) (m : VEvent). bs ++ events_bytes (m ∷ [])) d b
-    ∙ ap (λ (m : VEvent). (old ++ events_bytes (m ∷ [])) ++ said_bytes h (second ∷ [])) a
-    ∙ append_assoc old (said_bytes h (first ∷ [])) (said_bytes h (second ∷ []))
-    ∙ ap (λ (bs : List ℕ). old ++ bs) (sym (said_append h (first ∷ []) (second ∷ [])))
-
 -- no events have no bytes
 pub none_said : (h : EventHead) → said_bytes h [] ≡ []
 unfolding response spelling
@@ -113,13 +103,14 @@ none_said h = refl
 
 -- ---- the rows of a copy, one by one
 
-pub chunk_begun : (h : EventHead) (fields : List ℕ → List Column) (table : List ℕ) (rows : List (List Cell)) (old middle new : List ℕ) (begin column : VEvent) →
-    old ≡ [] → begin ≡ event_of h Begins → column ≡ event_of h (Columns table (fields table)) → middle ≡ old ++ events_bytes (begin ∷ []) → new ≡ middle ++ events_bytes (column ∷ []) →
+pub chunk_begun : (h : EventHead) (fields : List ℕ → List Column) (table : List ℕ) (rows : List (List Cell)) (old middle new columns : List ℕ) →
+    old ≡ [] → middle ≡ old ++ said_bytes h (Begins ∷ []) → columns ≡ said_bytes h (Columns table (fields table) ∷ []) → new ≡ middle ++ columns →
     said_bytes h (chunk_said fields table rows) ≡ new ++ said_bytes h (map (λ row. Changed (copied_row table row)) rows)
-chunk_begun h fields table rows old middle new begin column none a b d e =
+chunk_begun h fields table rows old middle new columns none a b d =
     said_append h (Begins ∷ (Columns table (fields table) ∷ [])) (map (λ row. Changed (copied_row table row)) rows)
     ∙ ap (λ (bs : List ℕ). bs ++ said_bytes h (map (λ row. Changed (copied_row table row)) rows))
-    (sym (both_events h Begins (Columns table (fields table)) old middle new begin column a b d e ∙ ap (λ (bs : List ℕ). bs ++ said_bytes h (Begins ∷ (Columns table (fields table) ∷ []))) none))
+    (said_append h (Begins ∷ []) (Columns table (fields table) ∷ [])
+    ∙ sym (d ∙ ap₂ (λ (ms cs : List ℕ). ms ++ cs) (a ∙ ap (λ (bs : List ℕ). bs ++ said_bytes h (Begins ∷ [])) none) b))
 
 pub chunk_more : (h : EventHead) (table : List ℕ) (row : List Cell) (rows left : List (List Cell)) (all old new : List ℕ) →
     all ≡ old ++ said_bytes h (map (λ row. Changed (copied_row table row)) rows) → rows ≡ row ∷ left → new ≡ old ++ said_bytes h (Changed (copied_row table row) ∷ []) →

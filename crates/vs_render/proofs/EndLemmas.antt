@@ -1,5 +1,5 @@
 -- The last message of a frame, and no other, ends it.
-use Rattle.std.proofs.Common.{◌≡◌, ◌≢◌, ℕ, Bool, true, false, List, [], ◌∷◌, ◌++◌, map, refl, ap, sym, ◌∙◌, not, ◌||◌}
+use Rattle.std.proofs.Common.{◌≡◌, ◌≢◌, ℕ, Bool, true, false, List, [], ◌∷◌, ◌++◌, map, refl, ap, ◌∙◌, not, ◌||◌}
 use Rattle.std.specs.List.{list_any}
 use Rattle.vs_base.specs.declared.Change.{Change}
 use Rattle.vs_base.specs.declared.table.Column.{Column}
@@ -7,13 +7,11 @@ use Rattle.vs_gtid.specs.declared.JournalValue.{JournalValue}
 use Rattle.vs_gtid.specs.declared.Work.{Work}
 use Rattle.vs_gtid.specs.declared.Work.TheVariants.{Rows, Ddl, Other, Journal}
 use Rattle.vs_proto.specs.Frames.{EndsOnce}
-use Rattle.vs_proto.specs.declared.event.VEvent.{VEvent}
 use Rattle.vs_gtid.specs.Vectors.{Vector}
-use Rattle.vs_model.specs.Frames.{Frame}
 use Rattle.vs_model.specs.Frames.Frame.{Tx, Switch, Halt, Chunk, CopyDone, AllCopied, Beat}
 use Rattle.vs_render.specs.Groups.{AreLongest, IsGrouped, at_last, grouped}
-use Rattle.vs_render.specs.Events.{EventHead, Saying, Begins, Changed, Columns, VectorAfter, Commits, Statement, OtherStatement, Telling, changes_said, closing_said, event_of, group_said, head_in, is_told, chunk_said, journal_if, no_head, with_columns}
-use Rattle.vs_render.specs.Frames.{fronts_said, groups_said, is_closing, is_end, is_inner, is_over, messages_in}
+use Rattle.vs_render.specs.Events.{EventHead, Saying, Begins, Changed, VectorAfter, Commits, Statement, OtherStatement, changes_said, closing_said, event_of, group_said, head_in, is_told, chunk_said, journal_if, no_head, with_columns}
+use Rattle.vs_render.specs.Frames.{fronts_said, groups_said, is_closing, is_end, is_inner, is_over}
 use Rattle.vs_render.specs.Laws.{FramesEndOnce}
 use Rattle.vs_render.proofs.GroupLemmas.{is_grouped}
 use Rattle.vs_render.proofs.SizeLemmas.{grows}

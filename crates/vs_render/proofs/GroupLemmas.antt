@@ -1,8 +1,7 @@
 -- A list is cut into its longest groups, in one way.
-use Rattle.std.proofs.Common.{arith, ◌≡◌, ◌≢◌, ℕ, ◌+◌, Bool, true, false, List, [], ◌∷◌, ◌++◌, length, refl, ap, sym, subst, ◌∙◌, append_assoc, if◌then◌else◌}
+use Rattle.std.proofs.Common.{arith, ◌≡◌, ◌≢◌, Bool, true, false, List, [], ◌∷◌, ◌++◌, length, refl, ap, sym, subst, ◌∙◌, append_assoc, if◌then◌else◌}
 use Rattle.std.proofs.lemmas.List.{append-nil}
 use Rattle.std.specs.Prelude.{◌⊎◌}
-use Rattle.std.specs.List.{flat_map}
 use Rattle.vs_render.specs.Groups.{Over, grouped_on, grouped, elements_of, IsLongest, AreLongest, IsGrouped, Grows}
 
 some_of : {A : Type 0} (x : A) (xs : List A) → x ∷ xs ≢ []

@@ -1,12 +1,12 @@
 -- Bytes in a room, and the messages in them.
-use Rattle.std.proofs.Common.{arith, ◌≡◌, ◌≢◌, ℕ, zero, suc, ◌+◌, ◌-◌, ◌≤◌, ◌<◌, Bool, true, false, List, [], ◌∷◌, ◌++◌, length, take, drop, refl, ap, ap₂, sym, ◌∙◌, append_assoc}
+use Rattle.std.proofs.Common.{arith, ◌≡◌, ℕ, zero, suc, ◌+◌, ◌-◌, ◌≤◌, ◌<◌, List, [], ◌∷◌, ◌++◌, length, take, drop, refl, ap, ap₂, sym, ◌∙◌, append_assoc}
 use Rattle.std.proofs.lemmas.List.{drop-append-le, drop-drop, length-drop, take-append-le}
 use Rattle.std.proofs.Math.Seq.{drop-append-add, take-append-add, take-length}
 use Rattle.std.proofs.lemmas.List.{append-nil}
 use Rattle.std.specs.List.{flat_map}
 use Rattle.vs_frame.specs.Frames.{framed}
 use Rattle.vs_render.specs.Groups.{at_last}
-use Rattle.vs_render.specs.Bodies.{Rendered, behind_pieces, body_bytes, body_in, pieces, total_length}
+use Rattle.vs_render.specs.Bodies.{behind_pieces, body_bytes, body_in, pieces, total_length}
 
 pub pieces_count : (ns bytes : List ℕ) → length (pieces ns bytes) ≡ length ns
 pieces_count [] bytes = refl

@@ -1,10 +1,10 @@
 -- The steps by which an entry's changes are rendered in one pass.
-use Rattle.std.proofs.Common.{nat_eq, ◌||◌, Some, if◌then◌else◌, arith, ◌≡◌, ◌≢◌, ◌≤◌, ◌<◌, ℕ, zero, suc, ◌+◌, ◌-◌, Option, drop, Bool, true, false, not, nat_lt, List, [], ◌∷◌, ◌++◌, length, map, refl, ap, ap₂, sym, subst, ◌∙◌, append_assoc}
+use Rattle.std.proofs.Common.{nat_eq, ◌||◌, Some, if◌then◌else◌, arith, ◌≡◌, ◌≤◌, ◌<◌, ℕ, ◌+◌, ◌-◌, drop, Bool, true, false, not, nat_lt, List, [], ◌∷◌, ◌++◌, length, map, refl, ap, ap₂, sym, subst, ◌∙◌, append_assoc}
 use Rattle.std.proofs.lemmas.Bool.Decides.{nat_tests}
 use Rattle.std.proofs.lemmas.List.Elements.{All-append, All-head, All-nil, All-replicate, All-tail, All-weaker}
 use Rattle.std.proofs.Math.Seq.{drop-append_seam, take-append_seam}
 use Rattle.std.proofs.lemmas.List.{append-nil}
-use Rattle.std.specs.List.{All, filter_map, find, flat_map}
+use Rattle.std.specs.List.{All, find, flat_map}
 use Rattle.std.specs.Cmp.Lexicographic.{pointwise, same_text}
 use Rattle.vs_base.specs.Limits.{most_body}
 use Rattle.vs_base.specs.declared.Change.{Change}
@@ -14,7 +14,7 @@ use Rattle.vs_render.specs.Events.{EventHead, Saying, Begins, Changed, Commits, 
 use Rattle.vs_render.specs.Spelling.{said_bytes}
 use Rattle.vs_render.specs.Frames.{group_size, groups_said, is_over}
 use Rattle.vs_render.specs.Rendering.{Stage, grouped_from, is_none, told_after, told_with}
-use Rattle.vs_render.specs.Bodies.{IsTooLarge, IsWithin, IsWritten, Rendered, behind_pieces, body_in, changes_body, pieces, rendered, sizes_of, total_length}
+use Rattle.vs_render.specs.Bodies.{IsWithin, IsWritten, Rendered, behind_pieces, body_in, changes_body, pieces, rendered, sizes_of, total_length}
 use Rattle.vs_render.proofs.BodyLemmas.{said_append}
 use Rattle.vs_render.proofs.GroupLemmas.{joins, next_is}
 use Rattle.vs_render.proofs.SizeLemmas.{group_append, grows, length_append, size_append}
@@ -258,6 +258,7 @@ written_of h said closing lengths bytes counts are within = record {
   where
     both : List (List ℕ) → List ℕ → Rendered
     both fronts end = record { fronts = fronts; closing = end }
+
     fit_along : (a b c d : ℕ) → a ≡ b → c ≡ d → b ≤ d → a ≤ c
     fit_along a b c d e f h = omega arith
 
@@ -273,10 +274,10 @@ ends_stage h fields changes told bytes lengths start some s fits =
     let count : length bytes - start ≡ length (said_bytes h (group_said fields (is_none s.done) s.group)) = count_is h fields changes [] told bytes lengths start some s in
     let cuts : s.done ++ s.group ∷ [] ≡ grouped (is_over h fields) changes = sym (s.cuts ∙ ap (λ (gs : List (List Change)). s.done ++ gs) (last_cut h fields (is_none s.done) s.group)) in
     subst (λ (gs : List (List Change)). IsWritten (lengths ++ (length bytes - start) ∷ []) (bytes ++ said_bytes h (Commits ∷ [])) (rendered h (groups_said fields true gs) Commits)) cuts
-      (written_of h (groups_said fields true (s.done ++ s.group ∷ [])) Commits (lengths ++ (length bytes - start) ∷ []) (bytes ++ said_bytes h (Commits ∷ []))
-        (all_counts h fields s.done s.group lengths (length bytes - start) s.counted count)
-        (ap (λ (bs : List ℕ). bs ++ said_bytes h (Commits ∷ [])) (all_bytes h fields s.done s.group bytes s.written))
-        (All-append (λ n. n + length (said_bytes h (Commits ∷ [])) ≤ most_body) lengths ((length bytes - start) ∷ []) s.within (All-replicate (λ n. n + length (said_bytes h (Commits ∷ [])) ≤ most_body) 1 (length bytes - start) fits)))
+    (written_of h (groups_said fields true (s.done ++ s.group ∷ [])) Commits (lengths ++ (length bytes - start) ∷ []) (bytes ++ said_bytes h (Commits ∷ []))
+    (all_counts h fields s.done s.group lengths (length bytes - start) s.counted count)
+    (ap (λ (bs : List ℕ). bs ++ said_bytes h (Commits ∷ [])) (all_bytes h fields s.done s.group bytes s.written))
+    (All-append (λ n. n + length (said_bytes h (Commits ∷ [])) ≤ most_body) lengths ((length bytes - start) ∷ []) s.within (All-replicate (λ n. n + length (said_bytes h (Commits ∷ [])) ≤ most_body) 1 (length bytes - start) fits)))
 
 -- ---- what is too large
 

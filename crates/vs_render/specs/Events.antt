@@ -1,8 +1,8 @@
 -- What the events of a frame say, and the messages of these events.
-use Rattle.std.specs.Prelude.{◌≡◌, ℕ, Bool, true, false, ◌++◌, nat_eq, List, [], ◌∷◌, length, map, Option, Some, None, ℤ, pos, negsuc, if◌then◌else◌}
-use Rattle.std.specs.List.{flat_map, list_any}
+use Rattle.std.specs.Prelude.{ℕ, Bool, true, false, ◌++◌, nat_eq, List, [], ◌∷◌, length, map, Some, None, ℤ, pos}
+use Rattle.std.specs.List.{list_any}
 use Rattle.std.specs.Int.{w64, cast_signed}
-use Rattle.std.specs.Option.{option_map, option_map_or}
+use Rattle.std.specs.Option.{option_map}
 use Rattle.std.specs.Cmp.Lexicographic.{pointwise}
 use Rattle.vs_base.specs.declared.ShardName.{ShardName}
 use Rattle.vs_base.specs.declared.Cell.{Cell}

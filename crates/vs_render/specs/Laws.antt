@@ -1,8 +1,6 @@
-use Rattle.std.specs.Prelude.{◌≡◌, ◌≤◌, ◌<◌, ℕ, ◌+◌, ◌-◌, ℤ, Bool, true, false, nat_lt, List, [], ◌∷◌, ◌++◌, map, length, Some}
-use Rattle.std.specs.List.{find}
+use Rattle.std.specs.Prelude.{◌≡◌, ℕ, List, map}
 use Rattle.std.specs.Cmp.Lexicographic.{slice_cmp}
 use Rattle.std.specs.Ordering.{nat_cmp}
-use Rattle.vs_base.specs.Limits.{most_body}
 use Rattle.vs_base.specs.declared.ShardName.{ShardName}
 use Rattle.vs_base.specs.declared.Cell.{Cell}
 use Rattle.vs_base.specs.declared.Change.{Change}
@@ -19,11 +17,9 @@ use Rattle.vs_filter.specs.declared.bound.Picked.{Picked}
 use Rattle.vs_filter.specs.Picks.{bound_in, bound_of}
 use Rattle.vs_proto.specs.Frames.{EndsOnce}
 use Rattle.vs_render.specs.Groups.{IsGrouped, grouped}
-use Rattle.vs_render.specs.Events.{EventHead, Begins, Commits, Telling, changes_said, head_of}
-use Rattle.vs_render.specs.Spelling.{said_bytes}
-use Rattle.vs_render.specs.Rendering.{Stage}
-use Rattle.vs_render.specs.Frames.{frame_bytes, groups_said, is_end, is_over, messages_in}
-use Rattle.vs_render.specs.Bodies.{behind_pieces, chunk_body, columns_in, entry_body, frame_with, pieces}
+use Rattle.vs_render.specs.Events.{EventHead, Telling, head_of}
+use Rattle.vs_render.specs.Frames.{frame_bytes, is_end, is_over, messages_in}
+use Rattle.vs_render.specs.Bodies.{chunk_body, columns_in, entry_body, frame_with}
 
 -- a frame is its body with the vector put in, by the picked tables of its shard
 abbrev pub BodiesMakeFrames : Type 0

@@ -1,4 +1,3 @@
-use Rattle.std.specs.Prelude.{ℕ}
 use Rattle.vs_render.specs.Bodies.{IsTooLarge, Rendered}
 use Rattle.vs_render.specs.declared.refusal.RenderRefusal.{RenderRefusal}
 use Rattle.vs_render.specs.declared.refusal.RenderRefusal.TheVariants.{TooLarge, Memory}

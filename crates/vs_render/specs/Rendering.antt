@@ -1,11 +1,14 @@
 -- What has been rendered of an entry's changes: the groups that are finished, and the one that is open.
-use Rattle.std.specs.Prelude.{◌≡◌, ◌≤◌, ℕ, ◌+◌, ◌-◌, ◌^◌, min, Bool, true, false, not, List, [], ◌∷◌, ◌++◌, length, map, Option, Some, All}
+use Rattle.std.specs.Prelude.{◌≡◌, ◌≤◌, ℕ, ◌+◌, Bool, true, false, not, List, [], ◌∷◌, ◌++◌, length, map, Option, Some, All}
 use Rattle.std.specs.List.{flat_map}
+use Rattle.std.specs.Option.{option_and_then}
 use Rattle.vs_base.specs.Limits.{most_body}
 use Rattle.vs_base.specs.declared.Change.{Change}
 use Rattle.vs_base.specs.declared.table.Column.{Column}
+use Rattle.vs_select.specs.Rows.{taken_row}
+use Rattle.vs_select.specs.declared.bound.BoundSelect.{BoundSelect}
 use Rattle.vs_render.specs.Groups.{grouped, grouped_on}
-use Rattle.vs_render.specs.Events.{EventHead, Changed, Columns, Commits, changes_said, group_said, is_told}
+use Rattle.vs_render.specs.Events.{EventHead, Changed, Commits, group_said, is_told}
 use Rattle.vs_render.specs.Spelling.{said_bytes}
 use Rattle.vs_render.specs.Frames.{group_size, groups_said, is_over}
 
@@ -44,10 +47,12 @@ pub record Stage (h : EventHead) (fields : List ℕ → List Column) (changes le
   pub within : All (λ n. n + length (said_bytes h (Commits ∷ [])) ≤ most_body) lengths
   pub open_within : some ≡ true → group_size h fields (is_none done) group ≤ most_body
 
--- What is measured of a change before it is written: it is picked as this change, and so many bytes has its ROW event, and
--- so many the FIELD event of its table; from 2^64 on these count as 2^64 - 1.
-pub record IsMeasured (h : EventHead) (fields : List ℕ → List Column) (picked : Option Change) (row field : ℕ) : Type 0 where
+-- a change with the images that a select takes
+abbrev pub taken_change : BoundSelect → Change → Change
+taken_change select c = record c { before = option_and_then (taken_row select) c.before; after = option_and_then (taken_row select) c.after }
+
+-- A change is picked as this one, and these bytes are its ROW event.
+pub record IsRowOf (h : EventHead) (picked : Option Change) (bytes : List ℕ) : Type 0 where
   pub change : Change
   pub is : picked ≡ Some change
-  pub row_is : row ≡ min (length (said_bytes h (Changed change ∷ []))) (2 ^ 64 - 1)
-  pub field_is : field ≡ min (length (said_bytes h (Columns change.table (fields change.table) ∷ []))) (2 ^ 64 - 1)
+  pub spelled : bytes ≡ said_bytes h (Changed change ∷ [])

@@ -1,14 +1,11 @@
 //! Events of a shard's frames, as messages.
-ghost use Rattle.std.specs.Prelude.{◌≡◌, ◌++◌, IfOk, OnErr, OnOk, [], ◌∷◌, map};
+ghost use Rattle.std.specs.Prelude.{◌≡◌, ◌++◌, IfOk, OnErr, OnOk, [], ◌∷◌};
 ghost use Rattle.std.specs.Option.{option_map};
 ghost use Rattle.vs_proto.specs.Frames.{events_bytes};
 ghost use Rattle.vs_render.specs.Events.{
   Changed,
-  Columns,
   Statement,
   event_of,
-  field_event_of,
-  field_of,
   head_of,
   plain_event,
   row_event_of,
@@ -20,10 +17,9 @@ ghost use Rattle.vs_base.specs.Rows.{cell_bytes, cell_length};
 
 use crate::OutOfMemory;
 use std::alloc::Global;
-use vs_base::{Cell, Change, Column, ColumnKind, Image, List, ShardName, Text};
+use vs_base::{Cell, Change, ColumnKind, Image, List, ShardName, Text};
 use vs_proto::{
-    Field, FieldEvent, Row, RowChange, RowEvent, VEvent, VStreamResponse, column_type, event_kind,
-    write_response,
+    Row, RowChange, RowEvent, VEvent, VStreamResponse, column_type, event_kind, write_response,
 };
 
 /// An event that says no more than its kind.
@@ -148,7 +144,7 @@ pub(crate) fn row_event(
 }
 
 /// The number of a column's type in messages.
-fn type_number(kind: ColumnKind) -> i32
+pub(crate) fn type_number(kind: ColumnKind) -> i32
     ensures { result ≡ type_number kind }
 {
     match kind {
@@ -173,37 +169,6 @@ fn type_number(kind: ColumnKind) -> i32
         ColumnKind::Char { .. } => column_type::CHAR,
         ColumnKind::Binary { .. } => column_type::BINARY,
     }
-}
-
-fn fields_of(alloc: Global, columns: &[Column]) -> Result<List<Field>, OutOfMemory>
-    ensures { IfOk result (λ l. l ≡ map field_of columns.now) }
-{
-    let mut fields = List::new(alloc);
-    for column in columns {
-        fields.push(Field {
-            name: column.name.copy(alloc)?,
-            kind: type_number(column.kind),
-        })?;
-    }
-    Ok(fields)
-}
-
-/// The event of the columns of a table.
-pub(crate) fn field_event(
-    alloc: Global,
-    name: &ShardName,
-    time: u32,
-    table: &[u8],
-    columns: &[Column],
-) -> Result<VEvent, OutOfMemory>
-    ensures { IfOk result (λ e. e ≡ event_of (head_of name.now time) (Columns table.now columns.now)) }
-{
-    let field_event = Some(FieldEvent {
-        table_name: table_name(alloc, &name.keyspace, table)?,
-        fields: fields_of(alloc, columns)?,
-    });
-    let event = plain_event(alloc, name, time, event_kind::FIELD)?;
-    Ok(VEvent { field_event, ..event })
 }
 
 /// Appends an event, as it stands in a message.

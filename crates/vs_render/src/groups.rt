@@ -11,8 +11,8 @@ ghost use Rattle.std.specs.Prelude.{
   IfOk,
   List,
   OnOk,
-  Some,
   false,
+  if◌then◌else◌,
   length,
   min,
   true,
@@ -23,14 +23,15 @@ ghost use Rattle.vs_base.specs.declared.Change.{Change as Changing};
 ghost use Rattle.vs_base.specs.declared.table.Column.{Column as Columned};
 ghost use Rattle.vs_filter.specs.Picks.{pick_in};
 ghost use Rattle.vs_render.specs.Bodies.{IsWritten, changes_body, columns_in};
-ghost use Rattle.vs_render.specs.Events.{Begins, Changed, Commits, head_of, with_columns};
+ghost use Rattle.vs_render.specs.Events.{Columns, Commits, head_of};
 ghost use Rattle.vs_render.specs.Refusals.{RefusalIs};
 ghost use Rattle.vs_render.specs.Rendering.{Stage, told_with};
 ghost use Rattle.vs_render.specs.Spelling.{said_bytes};
 
 use crate::body::Lengths;
-use crate::changes::{event_size, measure, put_change, size_with};
-use crate::events::{plain_event, put_event};
+use crate::columns::SpelledColumns;
+use crate::spelled::SpelledRow;
+use crate::spelling::put_plain_event;
 use crate::told::Told;
 use crate::{OutOfMemory, RenderRefusal};
 use std::alloc::Global;
@@ -40,6 +41,70 @@ use vs_proto::event_kind;
 
 /// The most bytes that a message may have, without its vector and with a closing event.
 pub(crate) const MOST: usize = 8_388_608;
+
+/// The events of a change, spelled.
+#[derive(Debug, Drop)]
+struct Spelled {
+    /// Its ROW event.
+    row: SpelledRow,
+    /// The FIELD event of its table.
+    columns: SpelledColumns,
+}
+
+/// Appends the ROW event of a change, behind the FIELD event of its table where that isn't known.
+fn put_spelled(
+    out: &mut Vec<u8>,
+    known: bool,
+    columns: &[u8],
+    row: &[u8],
+) -> Result<(), OutOfMemory>
+    ensures { OnOk result (out.new.items ≡ out.old.items ++ (if known then row.now else (columns.now ++ row.now))) }
+{
+    if known {
+        return out.extend_from_slice(row);
+    }
+    out.extend_from_slice(columns)?;
+    out.extend_from_slice(row)?;
+    Ok(())
+}
+
+/// Spells the FIELD event of a table, unless the table is known, and gives its size.
+fn columns_size(
+    alloc: Global,
+    columns: &mut SpelledColumns,
+    bound: &Bound,
+    name: &ShardName,
+    time: u32,
+    table: &[u8],
+    known: bool,
+) -> Result<usize, OutOfMemory>
+    ensures size { IfOk result (λ n. n ≡ (if known then 0 else (min (length (said_bytes (head_of name.now time) (Columns table.now (columns_in bound.now.tables table.now) ∷ []))) (2 ^ 64 - 1)))) }
+    ensures spelled { known ≡ false → OnOk result (columns.new.bytes.items ≡ said_bytes (head_of name.now time) (Columns table.now (columns_in bound.now.tables table.now) ∷ [])) }
+{
+    if known {
+        return Ok(0);
+    }
+    columns.spell(alloc, bound, name, time, table)?;
+    Ok(columns.bytes.len())
+}
+
+/// The size of a COMMIT event.
+fn commit_size(alloc: Global, name: &ShardName, time: u32) -> Result<usize, OutOfMemory>
+    ensures { IfOk result (λ n. n ≡ min (length (said_bytes (head_of name.now time) (Commits ∷ []))) (2 ^ 64 - 1)) }
+{
+    let mut commit = Vec::new(alloc);
+    put_plain_event(alloc, &mut commit, name, time, event_kind::COMMIT as u32)?;
+    Ok(commit.len())
+}
+
+/// The size of a message with a change more, of which the events have these sizes.
+fn size_with(length: usize, columns: usize, row: usize, closing: usize) -> usize
+    ensures { result ≡ min (length + (columns + row) + closing) (2 ^ 64 - 1) }
+{
+    length
+        .saturating_add(columns.saturating_add(row))
+        .saturating_add(closing)
+}
 
 /// The groups of an entry's changes, as far as they are written.
 #[derive(Debug, Drop)]
@@ -69,41 +134,42 @@ impl Groups {
         }
     }
 
-    /// Writes a picked change into the open group.
+    /// Writes the events of a change into the open group.
     fn join(
         &mut self,
         alloc: Global,
         out: &mut Vec<u8>,
-        bound: &Bound,
-        name: &ShardName,
-        time: u32,
-        change: &Change,
+        spelled: &Spelled,
+        table: &[u8],
         known: bool,
     ) -> Result<(), OutOfMemory>
-        ensures written { (c : Changing) → pick_in bound.now.tables change.now ≡ Some c → OnOk result (out.new.items ≡ out.old.items ++ said_bytes (head_of name.now time) (with_columns known c.table (columns_in bound.now.tables c.table) (Changed c ∷ []))) }
-        ensures told { OnOk result (self.new.told ≡ told_with known self.old.told change.now.table) }
+        ensures written { OnOk result (out.new.items ≡ out.old.items ++ (if known then spelled.now.row.bytes.items else (spelled.now.columns.bytes.items ++ spelled.now.row.bytes.items))) }
+        ensures told { OnOk result (self.new.told ≡ told_with known self.old.told table.now) }
         ensures earlier { OnOk result (self.new.earlier.items ≡ self.old.earlier.items) }
         ensures start { OnOk result (self.new.start ≡ self.old.start) }
         ensures some { OnOk result (self.new.some ≡ true) }
     {
-        put_change(alloc, out, bound, name, time, change, known)?;
-        self.told.add(alloc, known, change.table.as_bytes())?;
+        put_spelled(
+            out,
+            known,
+            spelled.columns.bytes.as_slice(),
+            spelled.row.bytes.as_slice(),
+        )?;
+        self.told.add(alloc, known, table)?;
         self.some = true;
         Ok(())
     }
 
-    /// Finishes the open group, and writes a picked change into the next one.
+    /// Finishes the open group, and writes the events of a change into the next one.
     fn begin_next(
         &mut self,
         alloc: Global,
         out: &mut Vec<u8>,
-        bound: &Bound,
-        name: &ShardName,
-        time: u32,
-        change: &Change,
+        spelled: &Spelled,
+        table: &[u8],
     ) -> Result<(), OutOfMemory>
-        ensures written { (c : Changing) → pick_in bound.now.tables change.now ≡ Some c → OnOk result (out.new.items ≡ out.old.items ++ said_bytes (head_of name.now time) (with_columns false c.table (columns_in bound.now.tables c.table) (Changed c ∷ []))) }
-        ensures told { OnOk result (self.new.told ≡ change.now.table ∷ []) }
+        ensures written { OnOk result (out.new.items ≡ out.old.items ++ (spelled.now.columns.bytes.items ++ spelled.now.row.bytes.items)) }
+        ensures told { OnOk result (self.new.told ≡ table.now ∷ []) }
         ensures earlier { OnOk result (self.new.earlier.items ≡ self.old.earlier.items ++ (length out.old.items - self.old.start) ∷ []) }
         ensures start { OnOk result (self.new.start ≡ length out.old.items) }
         ensures some { OnOk result (self.new.some ≡ true) }
@@ -112,7 +178,7 @@ impl Groups {
         self.earlier.push(end.saturating_sub(self.start))?;
         self.start = end;
         self.told.clear();
-        self.join(alloc, out, bound, name, time, change, false)?;
+        self.join(alloc, out, spelled, table, false)?;
         Ok(())
     }
 
@@ -122,6 +188,7 @@ impl Groups {
         &mut self,
         alloc: Global,
         out: &mut Vec<u8>,
+        spelled: &mut Spelled,
         bound: &Bound,
         name: &ShardName,
         time: u32,
@@ -132,23 +199,30 @@ impl Groups {
         ensures ok { (all left : List Changing) → Stage (head_of name.now time) (columns_in bound.now.tables) all (filter_map (pick_in bound.now.tables) (change.now ∷ left)) self.old.told out.old.items self.old.earlier.items self.old.start self.old.some → OnOk result (Stage (head_of name.now time) (columns_in bound.now.tables) all (filter_map (pick_in bound.now.tables) left) self.new.told out.new.items self.new.earlier.items self.new.start self.new.some) }
         ensures err { (all left : List Changing) → Stage (head_of name.now time) (columns_in bound.now.tables) all (filter_map (pick_in bound.now.tables) (change.now ∷ left)) self.old.told out.old.items self.old.earlier.items self.old.start self.old.some → IfErr result (λ e. RefusalIs (changes_body (head_of name.now time) (columns_in bound.now.tables) all) e) }
     {
-        let Some(measured) = measure(alloc, bound, name, time, change)? else {
+        let picked = spelled.row.spell(alloc, bound, name, time, change)?;
+        if !picked {
             return Ok(());
-        };
-        let known = self.told.has(change.table.as_bytes());
-        let size = size_with(out.len().saturating_sub(self.start), measured, known, closing);
+        }
+        let table = change.table.as_bytes();
+        let known = self.told.has(table);
+        let columns = columns_size(alloc, &mut spelled.columns, bound, name, time, table, known)?;
+        let row = spelled.row.bytes.len();
+        let size = size_with(out.len().saturating_sub(self.start), columns, row, closing);
         if size <= MOST {
-            self.join(alloc, out, bound, name, time, change, known)?;
+            self.join(alloc, out, spelled, table, known)?;
             return Ok(());
         }
         if !self.some {
             return Err(RenderRefusal::TooLarge { bytes: size as u64 });
         }
-        let alone = size_with(0, measured, false, closing);
+        let anew = columns_size(alloc, &mut spelled.columns, bound, name, time, table, false)?;
+        let alone = size_with(0, anew, row, closing);
         if alone > MOST {
-            return Err(RenderRefusal::TooLarge { bytes: alone as u64 });
+            return Err(RenderRefusal::TooLarge {
+                bytes: alone as u64,
+            });
         }
-        self.begin_next(alloc, out, bound, name, time, change)?;
+        self.begin_next(alloc, out, spelled, table)?;
         Ok(())
     }
 
@@ -170,7 +244,7 @@ impl Groups {
         if size > MOST {
             return Err(RenderRefusal::TooLarge { bytes: size as u64 });
         }
-        put_event(alloc, out, plain_event(alloc, name, time, event_kind::COMMIT)?)?;
+        put_plain_event(alloc, out, name, time, event_kind::COMMIT as u32)?;
         let Groups {
             earlier,
             told: _,
@@ -195,11 +269,15 @@ pub(crate) fn put_changes(
     ensures written { IfOk result (λ l. IsWritten (l.earlier.items ++ l.last ∷ []) out.new.items (changes_body (head_of name.now time) (columns_in bound.now.tables) (filter_map (pick_in bound.now.tables) changes.now))) }
     ensures refused { IfErr result (λ e. RefusalIs (changes_body (head_of name.now time) (columns_in bound.now.tables) (filter_map (pick_in bound.now.tables) changes.now)) e) }
 {
-    put_event(alloc, out, plain_event(alloc, name, time, event_kind::BEGIN)?)?;
-    let closing = event_size(alloc, plain_event(alloc, name, time, event_kind::COMMIT)?)?;
+    put_plain_event(alloc, out, name, time, event_kind::BEGIN as u32)?;
+    let closing = commit_size(alloc, name, time)?;
+    let mut spelled = Spelled {
+        row: SpelledRow::new(alloc),
+        columns: SpelledColumns::new(alloc),
+    };
     let mut groups = Groups::new(alloc);
     for change in changes {
-        match groups.take(alloc, out, bound, name, time, change, closing) {
+        match groups.take(alloc, out, &mut spelled, bound, name, time, change, closing) {
             Ok(()) => {}
             Err(refusal) => return Err(refusal),
         }

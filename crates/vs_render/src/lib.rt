@@ -3,7 +3,7 @@
 #![tactic(auto)]
 
 mod body;
-mod changes;
+mod columns;
 mod events;
 mod groups;
 mod laws;
@@ -12,6 +12,7 @@ mod putting;
 mod refusal;
 mod rendering;
 mod room;
+mod spelled;
 mod spelling;
 #[cfg(test)]
 mod tests;

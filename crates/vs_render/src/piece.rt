@@ -6,7 +6,11 @@ use vs_gtid::{GtidSet, JournalValue};
 #[derive(Debug, Drop)]
 pub enum Piece {
     /// An entry of the shard.
-    Tx { gtid: Gtid, time: u32, body: Body },
+    Tx {
+        gtid: Gtid,
+        time: u32,
+        body: Body,
+    },
     /// An entry that wrote a journal in which the shard takes no part.
     Foreign {
         gtid: Gtid,
@@ -28,9 +32,14 @@ pub enum Piece {
         room: Room,
     },
     /// Nothing is there yet.
-    Idle { room: Room },
+    Idle {
+        room: Room,
+    },
     /// Nothing more comes.
-    End { cause: EndCause, room: Room },
+    End {
+        cause: EndCause,
+        room: Room,
+    },
 }
 
 /// Why no more pieces of a lane come.

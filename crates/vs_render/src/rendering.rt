@@ -16,9 +16,10 @@ ghost use Rattle.vs_render.specs.Refusals.{RefusalIs};
 ghost use Rattle.vs_render.specs.Spelling.{said_bytes};
 
 use crate::body::Lengths;
-use crate::changes::columns_event;
+use crate::columns::SpelledColumns;
 use crate::events::{plain_event, put_event, row_event, statement_event};
 use crate::groups::{MOST, put_changes};
+use crate::spelling::put_plain_event;
 use crate::{Body, OutOfMemory, RenderRefusal, Room};
 use std::alloc::Global;
 use vs_base::{Change, Image, ShardName, Text};
@@ -27,11 +28,7 @@ use vs_gtid::{Entry, Work};
 use vs_proto::{VEvent, event_kind};
 
 /// Appends the closing event of a body of one message, whose other events were written.
-fn close(
-    alloc: Global,
-    out: &mut Vec<u8>,
-    closing: VEvent,
-) -> Result<Lengths, RenderRefusal>
+fn close(alloc: Global, out: &mut Vec<u8>, closing: VEvent) -> Result<Lengths, RenderRefusal>
     ensures written { IfOk result (λ l. IsWritten (l.earlier.items ++ l.last ∷ []) out.new.items (body_of out.old.items (events_bytes (closing ∷ [])))) }
     ensures refused { IfErr result (λ e. RefusalIs (body_of out.old.items (events_bytes (closing ∷ []))) e) }
 {
@@ -63,10 +60,22 @@ fn put_entry(
     match &entry.work {
         Work::Rows(changes) => put_changes(alloc, out, bound, name, time, changes.as_slice()),
         Work::Ddl(text) => close(alloc, out, statement_event(alloc, name, time, text)?),
-        Work::Other => close(alloc, out, plain_event(alloc, name, time, event_kind::OTHER)?),
+        Work::Other => close(
+            alloc,
+            out,
+            plain_event(alloc, name, time, event_kind::OTHER)?,
+        ),
         Work::Journal(_) => {
-            put_event(alloc, out, plain_event(alloc, name, time, event_kind::BEGIN)?)?;
-            close(alloc, out, plain_event(alloc, name, time, event_kind::COMMIT)?)
+            put_event(
+                alloc,
+                out,
+                plain_event(alloc, name, time, event_kind::BEGIN)?,
+            )?;
+            close(
+                alloc,
+                out,
+                plain_event(alloc, name, time, event_kind::COMMIT)?,
+            )
         }
     }
 }
@@ -126,8 +135,10 @@ fn put_chunk(
     requires { out.old.items ≡ [] }
     ensures { OnOk result (out.new.items ≡ said_bytes (head_of name.now time) (chunk_said (columns_in bound.now.tables) table.now rows.now)) }
 {
-    put_event(alloc, out, plain_event(alloc, name, time, event_kind::BEGIN)?)?;
-    put_event(alloc, out, columns_event(alloc, bound, name, time, table)?)?;
+    put_plain_event(alloc, out, name, time, event_kind::BEGIN as u32)?;
+    let mut columns = SpelledColumns::new(alloc);
+    columns.spell(alloc, bound, name, time, table)?;
+    out.extend_from_slice(columns.bytes.as_slice())?;
     for row in rows {
         put_copied(alloc, out, name, time, table, row)?;
     }
@@ -149,7 +160,11 @@ fn put_copy(
     ensures refused { IfErr result (λ e. RefusalIs (chunk_body bound.now.tables name.now table.now rows.now time) e) }
 {
     put_chunk(alloc, out, name, time, bound, table, rows)?;
-    close(alloc, out, plain_event(alloc, name, time, event_kind::COMMIT)?)
+    close(
+        alloc,
+        out,
+        plain_event(alloc, name, time, event_kind::COMMIT)?,
+    )
 }
 
 /// The body of rows of a copy, which are picked already. The room is emptied first.

@@ -12,11 +12,14 @@ type Cells = Option<(&'static [u8], &'static [u8])>;
 
 /// The events of the shard k/0 at second 1: BEGIN, an empty VGTID, COMMIT.
 const BEGIN: &[u8] = b"\x0a\x0c\x08\x02\x10\x01\xb2\x01\x01k\xba\x01\x010";
+
 const VECTOR: &[u8] = b"\x0a\x0e\x08\x0f\x10\x01\x3a\x00\xb2\x01\x01k\xba\x01\x010";
+
 const COMMIT: &[u8] = b"\x0a\x0c\x08\x03\x10\x01\xb2\x01\x01k\xba\x01\x010";
 
 /// The FIELD event of the table t, of which b, a varchar, and a, an int, are taken.
-const FIELD: &[u8] = b"\x0a\x23\x08\x0d\x10\x01\x32\x15\x0a\x03k.t\x12\x06\x0a\x01b\x10\x95\x30\x12\x06\x0a\x01a\x10\x87\x02\xb2\x01\x01k\xba\x01\x010";
+const FIELD: &[u8] =
+    b"\x0a\x23\x08\x0d\x10\x01\x32\x15\x0a\x03k.t\x12\x06\x0a\x01b\x10\x95\x30\x12\x06\x0a\x01a\x10\x87\x02\xb2\x01\x01k\xba\x01\x010";
 
 /// A table, a row of it before and after, and the events between BEGIN and the vector but for FIELD.
 const CHANGES: [(&[u8], Cells, Cells, &[u8]); 4] = [
@@ -43,6 +46,7 @@ const CHANGES: [(&[u8], Cells, Cells, &[u8]); 4] = [
 
 /// The closing event of a statement: of DDL `x`, and of another.
 const DDL: &[u8] = b"\x0a\x0f\x08\x05\x10\x01\x22\x01x\xb2\x01\x01k\xba\x01\x010";
+
 const OTHER: &[u8] = b"\x0a\x0c\x08\x0b\x10\x01\xb2\x01\x01k\xba\x01\x010";
 
 fn cell(alloc: Global, text: &[u8]) -> Result<Cell, OutOfMemory> {
@@ -150,7 +154,11 @@ fn changes_are_rows_behind_their_columns(rt: HostRuntime) -> Result<(), OutOfMem
             after: image(alloc, after)?,
         })?;
         let frame = frame_of(alloc, Work::Rows(changes))?;
-        let columns = if events.is_empty() { b"".as_slice() } else { FIELD };
+        let columns = if events.is_empty() {
+            b"".as_slice()
+        } else {
+            FIELD
+        };
         assert!(rt; is_made_of(&frame, [BEGIN, columns, events, VECTOR, COMMIT]));
     }
     Ok(())
@@ -173,7 +181,15 @@ fn a_chunk_is_one_message(rt: HostRuntime) -> Result<(), OutOfMemory> {
     if let Some(row) = image(alloc, Some((b"-", b"7")))? {
         rows.push(row)?;
     }
-    match render_chunk(alloc, b"t", &rows, 1, &shard(alloc)?, &bound(alloc)?, room(alloc)?) {
+    match render_chunk(
+        alloc,
+        b"t",
+        &rows,
+        1,
+        &shard(alloc)?,
+        &bound(alloc)?,
+        room(alloc)?,
+    ) {
         Ok(body) => {
             assert_eq!(rt; body.messages(), 1);
             let room = body.room();

@@ -37,7 +37,12 @@ impl Told {
     }
 
     /// Adds a table, unless it is known.
-    pub(crate) fn add(&mut self, alloc: Global, known: bool, table: &[u8]) -> Result<(), OutOfMemory>
+    pub(crate) fn add(
+        &mut self,
+        alloc: Global,
+        known: bool,
+        table: &[u8],
+    ) -> Result<(), OutOfMemory>
         ensures { OnOk result (self.new ≡ told_with known self.old table.now) }
     {
         if known {

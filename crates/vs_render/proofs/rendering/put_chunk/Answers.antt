@@ -1,6 +1,6 @@
-use Rattle.std.proofs.Common.{◌≡◌, ◌+◌, List, ℕ, drop, ap, ◌∙◌}
+use Rattle.std.proofs.Common.{rules, ◌+◌, drop, ◌∙◌}
 use Rattle.vs_render.specs.Bodies.{columns_in}
-use Rattle.vs_render.specs.Events.{Columns, chunk_said, event_of, head_of}
+use Rattle.vs_render.specs.Events.{chunk_said, head_of}
 use Rattle.vs_render.specs.Spelling.{said_bytes}
 use Rattle.vs_render.proofs.BodyLemmas.{chunk_begun, chunk_done, chunk_more}
 use Rattle.vs_render.proofs.TakeLemmas.{next_item, none_left}
@@ -8,8 +8,8 @@ use Rattle.vs_render.proofs.rendering.put_chunk.Goals as goal
 
 pub loop-row-init : goal.loop-row-init
 loop-row-init c =
-    chunk_begun (head_of c.args.name.now c.args.time) (columns_in c.args.bound.now.tables) c.args.table.now c.args.rows.now c.args.out.now.items c.put_event.new.out.items c.put_event-2.new.out.items c.in_ok-plain_event.field-0 c.in_ok-columns_event.field-0
-    c.requires c.in_ok-plain_event.ensures c.in_ok-columns_event.ensures c.in_ok-put_event.ensures.ok c.in_ok-put_event-2.ensures.ok
+    chunk_begun (head_of c.args.name.now c.args.time) (columns_in c.args.bound.now.tables) c.args.table.now c.args.rows.now c.args.out.now.items c.put_plain_event.new.out.items c.extend_from_slice.new.self.items c.as_slice.result.now
+    c.requires c.in_ok-put_plain_event.ensures (c.as_slice.ensures.value ∙ c.in_ok-spell.ensures) (search rules)
 
 pub loop-row-preserved : goal.loop-row-preserved
 loop-row-preserved c =
