@@ -9,7 +9,7 @@ use Rattle.vs_render.specs.Frames.{frame_bytes, frames_bytes}
 use Rattle.vs_core.specs.Machine.{Sent}
 use Rattle.vs_core.specs.Machine.Sent.{SentBody, SentCopyDone, SentSwitch, SentHalt, SentAllCopied, SentBeat}
 use Rattle.vs_core.specs.Runs.{BodySpelling, IsSentFrame}
-use Rattle.vs_core.specs.Spelling.{SpellsFrames, sent_bytes, stream_bytes, told_without_tables}
+use Rattle.vs_core.specs.Spelling.{SpellsFrames, sent_bytes, stream_bytes}
 
 module _ (spells : BodySpelling) (t : Telling) (whole : SpellsFrames spells t) where
   one : (x : Sent) (f : Frame) → IsSentFrame spells x f → sent_bytes t.journals x ≡ frame_bytes t f

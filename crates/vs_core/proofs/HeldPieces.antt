@@ -4,7 +4,7 @@ use Rattle.std.specs.List.{AllByRecursion}
 use Rattle.std.proofs.lemmas.Bool.{cases_Bool, eqb-true}
 use Rattle.vs_model.proofs.Lists.{cons_is_not_nil, same_head}
 use Rattle.vs_render.specs.declared.piece.Piece.{Piece}
-use Rattle.vs_core.specs.Choices.{held_of, is_of_lane, without_head}
+use Rattle.vs_core.specs.Choices.{held_of, without_head}
 
 abbrev Held : Type 0
 Held = List (ℕ × Piece)

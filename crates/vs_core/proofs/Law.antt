@@ -1,38 +1,33 @@
 -- All that the core sends is legal, where its lanes posted what their logs let them.
-use Rattle.std.proofs.Common.{◌≡◌, ◌≢◌, ◌⊎◌, ◌||◌, ℕ, ◌+◌, ◌≤◌, zero, suc, Bool, true, false, not, List, [], ◌∷◌, ◌++◌, append-nil, append_assoc, length, map, Option, Some, None, Ok, Err, Result, IsTrue, IsFalse, IfSome, is_some, filter, slice_get, slice_set, nat_eq, nat_lt, if◌then◌else◌, refl, ap, sym, ◌∙◌, subst, inl, inr, ⊎_elim, true≢false, arith}
-use Rattle.std.specs.List.{last_or, find, list_all, list_any, AllByRecursion, AllZip}
-use Rattle.std.specs.Option.{option_or}
+use Rattle.std.proofs.Common.{◌≡◌, ℕ, ◌≤◌, suc, Bool, true, false, not, List, [], ◌∷◌, ◌++◌, append-nil, append_assoc, length, map, Option, Some, None, Ok, Err, IsTrue, IfSome, is_some, filter, slice_get, slice_set, nat_eq, nat_lt, if◌then◌else◌, refl, ap, sym, ◌∙◌, subst, inl, inr, ⊎_elim, true≢false, arith}
+use Rattle.std.specs.List.{last_or, list_all, AllByRecursion, AllZip}
 use Rattle.std.specs.Ordering.{int_eq}
 use Rattle.std.proofs.lemmas.Bool.{and_parts, cases_Bool, eqb-true}
 use Rattle.std.proofs.lemmas.Bool.Decides.{Decides-int_eq}
 use Rattle.std.proofs.lemmas.Option.{slice_get_within}
-use Rattle.std.proofs.Math.Bool.{or-false}
 use Rattle.vs_base.specs.declared.ShardName.{ShardName}
 use Rattle.vs_base.specs.declared.Gtid.{Gtid}
 use Rattle.vs_base.specs.declared.LastKey.{LastKey}
-use Rattle.vs_base.specs.Names.{same_name, same_gtid}
+use Rattle.vs_base.specs.Names.{same_name}
 use Rattle.vs_base.proofs.NameLemmas.{same_name-is, same_name-refl}
 use Rattle.vs_gtid.specs.declared.JournalValue.{JournalValue}
-use Rattle.vs_gtid.specs.declared.Successor.{Successor}
 use Rattle.vs_gtid.specs.declared.Entry.{Entry}
 use Rattle.vs_gtid.specs.Joins.{added}
-use Rattle.vs_gtid.specs.Journals.{same_journal}
-use Rattle.vs_gtid.specs.Positions.{Position, has}
-use Rattle.vs_gtid.specs.Vectors.{Vector, Place, IsCanonicalPlace, IsCanonicalVector, Copies, place_of, stands, moved, switched, Streams, is_in}
+use Rattle.vs_gtid.specs.Positions.{Position}
+use Rattle.vs_gtid.specs.Vectors.{Vector, Place, IsCanonicalVector, place_of, stands, moved, switched, Streams, is_in}
 use Rattle.vs_gtid.specs.Vectors.Place.{Fresh, Copying, Streaming}
-use Rattle.vs_gtid.proofs.JoinLemmas.{has-added}
 use Rattle.vs_gtid.proofs.SameJournals.{same_journal-is}
-use Rattle.vs_model.specs.Logs.{Cluster, Image, LogsAreDistinct, IsPositionAfter, journal_of, log_of, due, stop, after, first_own, own_of, own_journal, is_own}
+use Rattle.vs_model.specs.Logs.{Cluster, Image, LogsAreDistinct, journal_of, log_of, due, stop, after, is_own}
 use Rattle.vs_model.specs.Copy.{Filter}
 use Rattle.vs_model.specs.Frames.{Frame as Sending, vector_after, last_vector, is_no_beat}
 use Rattle.vs_model.specs.Frames.Frame.{Switch as SwitchFrame, Halt as HaltFrame, AllCopied as AllCopiedFrame, Beat as BeatFrame}
-use Rattle.vs_model.specs.Legal.{Legal, HasGathered, NoneCopies, NoParticipantStands, AllCopiedFollows, IsCopyDoneFrame}
+use Rattle.vs_model.specs.Legal.{HasGathered, NoneCopies, NoParticipantStands, AllCopiedFollows, IsCopyDoneFrame}
 use Rattle.vs_model.specs.Steps.{Step, Steps}
 use Rattle.vs_model.specs.Core.{Piece as Given, PlaceAfter, AreGiven, HasBase, HasAllCopied, IsNoStranger, frame_of, ends_copies, some_copies}
 use Rattle.vs_model.specs.Core.Piece.{Transaction, CopiedRows, CopyEnd}
 use Rattle.vs_model.proofs.Each.{all_append, all_filtered, all_of_two, all_weaker}
 use Rattle.vs_model.proofs.Lists.{cons_is_not_nil, some_is_not_none, same_some}
-use Rattle.vs_model.proofs.Places.{at_name, past_name, same_position, streams_or_copies, place_of-moved, place_of-moved_other, place_of-switched}
+use Rattle.vs_model.proofs.Places.{same_position, streams_or_copies, place_of-moved, place_of-moved_other, place_of-switched}
 use Rattle.vs_model.proofs.Runs.{AllZip-append, last_vector-append, steps_are_legal}
 use Rattle.vs_model.proofs.Resumed.{steps_both}
 use Rattle.vs_model.proofs.OneStep.{step_all_copied, step_beat, step_halt, step_switch}
@@ -46,30 +41,28 @@ use Rattle.vs_render.specs.declared.piece.Piece.TheVariants as piece
 use Rattle.vs_render.specs.declared.piece.EndCause.TheVariants as cause
 use Rattle.vs_base.specs.Limits.{most_intervals}
 use Rattle.vs_vector.specs.Places.{place_position}
-use Rattle.vs_vector.specs.Changes.{place_with, limited_place, moved_to, advanced_from, advanced, set_to}
+use Rattle.vs_vector.specs.Changes.{place_with, moved_to, advanced_from, advanced, set_to}
 use Rattle.vs_vector.specs.declared.refusal.VectorRefusal.TheVariants.{Absent, TooManyIntervals}
-use Rattle.vs_gather.specs.Gathering.{Arrived, concerns, arrival, arrival_unless, arrives, arrived_of, kept_of, arrival_refusal, first_of, differs, clash, clash_of, kept_with, kept_without, has_id, adds_nothing, have_all_arrived}
+use Rattle.vs_gather.specs.Gathering.{concerns, arrival_unless, arrives, arrived_of, kept_of, arrival_refusal, differs, kept_with, kept_without, has_id, adds_nothing}
 use Rattle.vs_gather.specs.Gathering.Arrived.{StillWaits, Completes}
 use Rattle.vs_gather.specs.declared.kept.Kept.{Kept}
 use Rattle.vs_gather.specs.declared.refusal.GatherRefusal.{GatherRefusal}
-use Rattle.vs_gather.specs.declared.refusal.GatherRefusal.TheVariants.{Differs, Clash}
 use Rattle.vs_core.specs.declared.lane.LaneState.{LaneState}
 use Rattle.vs_core.specs.declared.lane.LaneState.TheVariants.{Live, AtEnd, Failed, Over}
-use Rattle.vs_core.specs.declared.refusal.CoreRefusal.{CoreRefusal}
 use Rattle.vs_core.specs.declared.refusal.CoreRefusal.TheVariants.{Stranger, TooManyShards}
 use Rattle.vs_core.specs.Choices.{held_of, without_head}
-use Rattle.vs_core.specs.Machine.{CoreState, CoreEvent, Sent, TurnTold, Turned, Goes, MayBegin, MayTake, arrived_by, completed, switched_to, turned, with_next, with_pieces, chosen_lane, handled_of, handled_by, moved_by, copied_by, ended_by, failed_by, at_rest, initial, in_state, is_done, is_stuck, failures, has_live, is_live, states_of}
+use Rattle.vs_core.specs.Machine.{CoreState, CoreEvent, Sent, TurnTold, Turned, MayBegin, MayTake, arrived_by, switched_to, turned, with_next, with_pieces, chosen_lane, handled_of, handled_by, moved_by, copied_by, ended_by, failed_by, in_state, is_done, is_stuck, failures}
 use Rattle.vs_core.specs.Machine.Goes.{begins, takes, turns, beats}
 use Rattle.vs_core.specs.Machine.CoreEvent.{Begin, Take, Turn, Beat}
 use Rattle.vs_core.specs.Machine.Sent.{SentBody, SentCopyDone, SentSwitch, SentHalt, SentAllCopied, SentBeat}
 use Rattle.vs_core.specs.Machine.Turned.{Went, Refused}
-use Rattle.vs_core.specs.Machine.TurnTold.{Restart, Ended, Arrives, Halted, Switched, AllCopied, Done, Stuck, Nothing}
+use Rattle.vs_core.specs.Machine.TurnTold.{Restart, Ended, Halted, Switched, AllCopied, Done, Stuck, Nothing}
 use Rattle.vs_core.specs.Runs.StreamRun.{starts, goes_on}
 use Rattle.vs_core.specs.Runs.{BodySpelling, StreamRun, Shows, ArePosted, ArePostedFrom, IsSentFrame, IsLegalStream, pieces_taken, takes_of}
 use Rattle.vs_core.proofs.Slots.{all_found, at_append, append_at, at_set, set_other, length_set, length_more, if_some, none_any, none_found}
 use Rattle.vs_core.proofs.HeldPieces.{all_without_head, held_append, held_other, held_parts, held_past, lane_held, none_held, not_same}
 use Rattle.vs_core.proofs.Ends.{CopiesOrEnded, SomeCopies, ends_now, ends_piece, ends_still}
-use Rattle.vs_core.proofs.StepFacts.{all_put, canonical_at, each_name, first_own_is, grown_by, in_append, live_not_end, live_not_failed, live_not_over, live_shows, no_clash, none_first, none_stand, not_differs, not_refused, or_true, own_is, same_new, same_sent}
+use Rattle.vs_core.proofs.StepFacts.{all_put, canonical_at, each_name, first_own_is, grown_by, in_append, live_not_end, live_not_failed, live_not_over, live_shows, no_clash, none_first, none_stand, not_differs, not_refused, same_new, same_sent}
 
 module _ (spells : BodySpelling) (cluster : Cluster) (rules : Filter) (distinct : LogsAreDistinct cluster) where
   -- the lane of a shard gives these pieces, from the vector's entry on
@@ -179,17 +172,22 @@ module _ (spells : BodySpelling) (cluster : Cluster) (rules : Filter) (distinct 
           let there_then : place_of w n ≡ Some to = place_of-moved s.vector n to (ap is_some there) in
           let to_canonical = canonical_at w n to there_then canonical in
           let log = log_of cluster n in
-          let step = piece_step cluster rules distinct s.vector n to to_canonical frames.canonical place piece_given told last there given base moves foreign in
-          (lanes_moved to (to, there_then, record {
-            told = told;
-            last = last;
-            given_there = given_on (rules n) n log (distinct n) told last to to_canonical place piece_given given moves;
-            base = λ some. base_on (rules n) n log (distinct n) told last to to_canonical place piece_given given moves base;
-            shows = shows;
-          }) (ends_copies piece_given w),
-          frame_more sent s.vector w s.all_copied (ends_copies piece_given w) one (frame_of n piece_given w) frames shows_frame step (after_piece n piece_given s.vector w) canonical
-          (λ e. absurd (not_all_copied n piece_given w e)) (λ e before was. due_of_piece n piece_given w before e)
-          (λ fs was. ends_piece s.vector w n place to there there_then (λ t other. place_of-moved_other s.vector n t to other) piece_given s.all_copied not_due moves fs was))
+          let step = piece_step cluster rules distinct s.vector n to to_canonical frames.canonical place piece_given told last there given base moves foreign in (
+            lanes_moved to (
+              to,
+              there_then,
+              record {
+                told = told;
+                last = last;
+                given_there = given_on (rules n) n log (distinct n) told last to to_canonical place piece_given given moves;
+                base = λ some. base_on (rules n) n log (distinct n) told last to to_canonical place piece_given given moves base;
+                shows = shows;
+              },
+            ) (ends_copies piece_given w),
+            frame_more sent s.vector w s.all_copied (ends_copies piece_given w) one (frame_of n piece_given w) frames shows_frame step (after_piece n piece_given s.vector w) canonical
+                (λ e. absurd (not_all_copied n piece_given w e)) (λ e before was. due_of_piece n piece_given w before e)
+                (λ fs was. ends_piece s.vector w n place to there there_then (λ t other. place_of-moved_other s.vector n t to other) piece_given s.all_copied not_due moves fs was),
+          )
 
       -- nothing is sent, and the vector stays
       lanes_same : LaneFits s.vector n (held_of k rest ++ future k) → Lanes (record s { held = rest }) future
@@ -398,11 +396,14 @@ module _ (spells : BodySpelling) (cluster : Cluster) (rules : Filter) (distinct 
               }
 
               halts : (kept : List Kept) → Lanes (record over { kept = kept }) future → Goal (Went (record over { kept = kept }) (SentHalt j s.vector ∷ []) (Halted k j.id))
-              halts kept kept_on is = then_by _ _ _ _ _ _ is (kept_on,
+              halts kept kept_on is = then_by _ _ _ _ _ _ is (
+                kept_on,
                 frame_more sent s.vector s.vector s.all_copied s.all_copied (SentHalt j s.vector) (HaltFrame j s.vector) frames (refl, refl)
-                (step_halt cluster rules s.vector j gathered frames.canonical) refl frames.canonical
-                (λ e. absurd (let h : HaltFrame j s.vector ≡ AllCopiedFrame = e in cc)) (λ e before was. absurd (true≢false (sym e ∙ not_due)))
-                (λ fs was. ends_still fs (HaltFrame j s.vector) s.vector s.vector s.all_copied tt (λ copies. copies) was), refl)
+                    (step_halt cluster rules s.vector j gathered frames.canonical) refl frames.canonical
+                    (λ e. absurd (let h : HaltFrame j s.vector ≡ AllCopiedFrame = e in cc)) (λ e before was. absurd (true≢false (sym e ∙ not_due)))
+                    (λ fs was. ends_still fs (HaltFrame j s.vector) s.vector s.vector s.all_copied tt (λ copies. copies) was),
+                refl,
+              )
 
               stays_in : (m : ShardName) → (Comes m → ⊥) → is_in m j.participants ≡ false
               stays_in m not_come = ⊎_elim (λ i. absurd (not_come (participant_comes m i))) (λ i. i) (cases_Bool (is_in m j.participants))
@@ -422,9 +423,12 @@ module _ (spells : BodySpelling) (cluster : Cluster) (rules : Filter) (distinct 
                       AllByRecursion (λ c. (m : ShardName) → IsTrue (is_in m c.arrived) → HasCome (switched s.vector j) m c.journal × IsNotLive over m) (kept_without j.id kept) →
                       AllByRecursion (λ c. (m : ShardName) → IsTrue (is_in m c.arrived) → HasCome (switched s.vector j) m c.journal × IsNotLive over m) (kept_without j.id (c ∷ kept))
                   by true p on = rw p on
-                  by false p on = rw p (λ m i.
-                      let at = all.0 m i in
-                      ((at.0.0, place_of-switched s.vector j m (other_stays c p m at.0) (ap is_some at.0.1) ∙ at.0.1, at.0.2, at.0.3), at.1), on)
+                  by false p on = rw p (
+                    λ m i.
+                        let at = all.0 m i in
+                        ((at.0.0, place_of-switched s.vector j m (other_stays c p m at.0) (ap is_some at.0.1) ∙ at.0.1, at.0.2, at.0.3), at.1),
+                    on,
+                  )
 
               -- a participant streams, so each copying shard stays
               copies_stay : SomeCopies s.vector → SomeCopies (switched s.vector j)
@@ -436,19 +440,22 @@ module _ (spells : BodySpelling) (cluster : Cluster) (rules : Filter) (distinct 
               switches is =
                   let w = switched s.vector j in
                   let at_w : IsCanonicalVector w = subst IsCanonicalVector (sym (ap (λ x. x.vector) (same_new _ _ _ _ _ _ is))) canonical in
-                  then_by _ _ _ _ _ _ is (record {
-                    even = lanes_over.even;
-                    fits = λ l m at live.
-                        let fit = lanes_over.fits l m at live in
-                        (fit.0, place_of-switched s.vector j m (stays_in m (λ come. come.1 l at live)) (ap is_some fit.1) ∙ fit.1, fit.2);
-                    one = lanes_over.one;
-                    live = lanes_over.live;
-                    come = left_come s.kept lanes_over.come;
-                  },
-                  frame_more sent s.vector w s.all_copied s.all_copied (SentSwitch j w) (SwitchFrame j w) frames (refl, refl)
-                  (step_switch cluster rules s.vector j gathered at_w) refl at_w
-                  (λ e. absurd (let h : SwitchFrame j w ≡ AllCopiedFrame = e in cc)) (λ e before was. absurd (true≢false (sym e ∙ not_due)))
-                  (λ fs was. ends_still fs (SwitchFrame j w) s.vector w s.all_copied tt copies_stay was), refl)
+                  then_by _ _ _ _ _ _ is (
+                    record {
+                      even = lanes_over.even;
+                      fits = λ l m at live.
+                          let fit = lanes_over.fits l m at live in
+                          (fit.0, place_of-switched s.vector j m (stays_in m (λ come. come.1 l at live)) (ap is_some fit.1) ∙ fit.1, fit.2);
+                      one = lanes_over.one;
+                      live = lanes_over.live;
+                      come = left_come s.kept lanes_over.come;
+                    },
+                    frame_more sent s.vector w s.all_copied s.all_copied (SentSwitch j w) (SwitchFrame j w) frames (refl, refl)
+                        (step_switch cluster rules s.vector j gathered at_w) refl at_w
+                        (λ e. absurd (let h : SwitchFrame j w ≡ AllCopiedFrame = e in cc)) (λ e before was. absurd (true≢false (sym e ∙ not_due)))
+                        (λ fs was. ends_still fs (SwitchFrame j w) s.vector w s.all_copied tt copies_stay was),
+                    refl,
+                  )
 
               all_without : (P : Kept → Type 0) (kept : List Kept) → AllByRecursion P kept → AllByRecursion P (kept_without j.id kept)
               all_without P kept all = all_filtered P (λ c. not (has_id j.id c)) kept all
@@ -543,13 +550,21 @@ module _ (spells : BodySpelling) (cluster : Cluster) (rules : Filter) (distinct 
             let sh = posted.shows in
             copy_ended q time place sh.0 posted.last there (given_as place _ posted _ sh.1) (base_as place _ posted _ _ sh.1) sh.2 is
         handle own (piece.Idle room) place there posted is =
-            then_by _ _ _ _ _ _ is (lanes_same (place, there, record {
-              told = posted.told;
-              last = posted.last;
-              given_there = posted.given_there;
-              base = posted.base;
-              shows = posted.shows;
-            }), frames_same, refl)
+            then_by _ _ _ _ _ _ is (
+              lanes_same (
+                place,
+                there,
+                record {
+                  told = posted.told;
+                  last = posted.last;
+                  given_there = posted.given_there;
+                  base = posted.base;
+                  shows = posted.shows;
+                },
+              ),
+              frames_same,
+              refl,
+            )
         handle own (piece.End cause.AtEnd room) place there posted is = lane_over AtEnd (Ended k) live_not_end posted.shows.0 is
         handle own (piece.End (cause.OwnJournal j) room) place there posted is =
             own j place there (subst (λ o. AreGiven (rules n) n (log_of cluster n) [] o place) posted.shows.2 (given_as place _ posted [] posted.shows.1)) posted.shows.0 is
@@ -576,20 +591,22 @@ module _ (spells : BodySpelling) (cluster : Cluster) (rules : Filter) (distinct 
             (at_append s.names n m l is);
         one = λ a b m a_is a_live b_is b_live. ⊎_elim
             (λ a_was. ⊎_elim
-                (λ b_was. lanes.one a b m a_was (live_was a m a_was a_live) b_was (live_was b m b_was b_live))
-                (λ b_new. absurd (not_both a m a_was a_live b_new.1))
-                (at_append s.names n m b b_is))
+            (λ b_was. lanes.one a b m a_was (live_was a m a_was a_live) b_was (live_was b m b_was b_live))
+            (λ b_new. absurd (not_both a m a_was a_live b_new.1))
+            (at_append s.names n m b b_is))
             (λ a_new. ⊎_elim
-                (λ b_was. absurd (not_both b m b_was b_live a_new.1))
-                (λ b_new. a_new.0 ∙ sym b_new.0)
-                (at_append s.names n m b b_is))
+            (λ b_was. absurd (not_both b m b_was b_live a_new.1))
+            (λ b_new. a_new.0 ∙ sym b_new.0)
+            (at_append s.names n m b b_is))
             (at_append s.names n m a a_is);
         live = all_weaker _ _ (λ h at. append_at s.states Live Live h.0 at) s.held lanes.live;
-        come = all_of_two _ _ _ (λ c by none m i. let h = by m i in
-            (h.0, λ l is live. ⊎_elim
-            (λ was. h.1 l was (live_was l m was live))
-            (λ new. true≢false (sym (ap (λ x. is_in x c.arrived) (sym new.1) ∙ i) ∙ none))
-            (at_append s.names n m l is))) s.kept lanes.come (none_any (λ c. is_in n c.arrived) s.kept may.waits_not);
+        come = all_of_two _ _ _ (λ c by none m i. let h = by m i in (
+          h.0,
+          λ l is live. ⊎_elim
+              (λ was. h.1 l was (live_was l m was live))
+              (λ new. true≢false (sym (ap (λ x. is_in x c.arrived) (sym new.1) ∙ i) ∙ none))
+              (at_append s.names n m l is),
+        )) s.kept lanes.come (none_any (λ c. is_in n c.arrived) s.kept may.waits_not);
       }
         where
           live_was : (l : ℕ) (m : ShardName) → slice_get s.names l ≡ Some m → slice_get (s.states ++ Live ∷ []) l ≡ Some Live → slice_get s.states l ≡ Some Live
@@ -738,7 +755,6 @@ module _ (spells : BodySpelling) (cluster : Cluster) (rules : Filter) (distinct 
             frames = on.1;
             fresh = λ k past. ap (λ l. l ++ []) (before.fresh k (subst (λ l. length l ≤ k) on.2 past));
           }
-
       run_kept more h sent s (goes_on {events = g} {sent = x} {s = old} {e = Beat now} run beats) future all posted =
           let before = run_kept more g x old run future (λ k. all k ∙ ap (λ l. l ++ future k) (append-nil (pieces_taken k g))) posted in
           record {

@@ -1,10 +1,10 @@
 -- The lane whose head leaves next.
-use Rattle.std.proofs.Common.{◌≡◌, ℕ, zero, suc, ◌+◌, ◌-◌, ◌<◌, ◌≤◌, Bool, true, false, List, [], ◌∷◌, ◌++◌, append-nil, append_assoc, length, map, take, drop, Option, Some, None, nat_eq, nat_le, if◌then◌else◌, slice_get, option_map, refl, ap, sym, ◌∙◌, subst, ⊎_elim, true≢false, arith}
-use Rattle.std.specs.List.{AllByRecursion, remove}
+use Rattle.std.proofs.Common.{◌≡◌, ℕ, zero, suc, ◌+◌, ◌-◌, ◌<◌, ◌≤◌, true, false, List, [], ◌∷◌, ◌++◌, append_assoc, length, map, take, Option, Some, None, nat_eq, nat_le, if◌then◌else◌, slice_get, option_map, refl, ap, sym, ◌∙◌, subst, ⊎_elim, true≢false, arith}
+use Rattle.std.specs.List.{AllByRecursion}
 use Rattle.std.proofs.lemmas.Bool.{cases_Bool, eq-eqb, eqb-true, leb-true, le-leb}
 use Rattle.vs_pace.specs.declared.head.Head.{Head}
 use Rattle.vs_pace.specs.Heads.{IsNext, rank}
-use Rattle.vs_model.proofs.Each.{all_append, all_weaker}
+use Rattle.vs_model.proofs.Each.{all_append}
 use Rattle.vs_model.proofs.Lists.{cons_is_not_nil, some_is_not_none, same_some, same_head, same_tail}
 use Rattle.vs_render.specs.declared.piece.Piece.{Piece}
 use Rattle.vs_core.specs.Choices.{IsHeadAt, IsNextPlace, behind_one, first_head, lane_head, heads_below, held_of, next_lane, piece_time, sooner, with_lane, without_head}
@@ -129,9 +129,12 @@ next_at skew (h ∷ hs) i [] head behind is n greater less =
     (h, ap Some (sooner_is skew h (first_head skew hs) (no_less_in skew (rank skew h.1) hs all)), ap (slice_get (h ∷ hs)) (sym n), h_is)
 next_at skew (h ∷ hs) i (b ∷ before) head behind is n greater less =
     let h_is : h.1 ≡ b = same_head _ _ _ _ is in
-    let on = next_at skew hs (length before) before head behind (same_tail _ _ _ _ is) refl greater.1 less in
-    (on.0, ap (λ o. Some (sooner skew h o)) on.1 ∙ ap Some (later_is skew h on.0 (subst (λ y. rank skew on.0.1 < rank skew y) (sym h_is) (subst (λ y. rank skew y < rank skew b) (sym on.3) greater.0))),
-    ap (slice_get (h ∷ hs)) (sym n) ∙ on.2, on.3)
+    let on = next_at skew hs (length before) before head behind (same_tail _ _ _ _ is) refl greater.1 less in (
+      on.0,
+      ap (λ o. Some (sooner skew h o)) on.1 ∙ ap Some (later_is skew h on.0 (subst (λ y. rank skew on.0.1 < rank skew y) (sym h_is) (subst (λ y. rank skew y < rank skew b) (sym on.3) greater.0))),
+      ap (slice_get (h ∷ hs)) (sym n) ∙ on.2,
+      on.3,
+    )
 
 pub next_is : (skew n : ℕ) (held : Held) (i : ℕ) (x : ℕ × Head) → IsNext skew (map (λ y. y.1) (heads_below n held)) i → slice_get (heads_below n held) i ≡ Some x →
     IsNextPlace (next_lane skew n held) held (Some (x.0, x.1.taken))
@@ -164,22 +167,27 @@ behind_lanes k (suc m) p held le = all_append (λ x. 0 < x.1.taken) (heads_below
     one (Some h) = (omega arith, tt)
 
 lanes_split : (k d : ℕ) (p : Piece) (held : Held) → (ys : List (ℕ × Head)) × (heads_below (d + suc k) ((k, p) ∷ held) ≡ heads_below k ((k, p) ∷ held) ++ (k, head_is p 0) ∷ ys)
-lanes_split k zero p held =
-    ([], subst (λ n. heads_below n ((k, p) ∷ held) ≡ heads_below k ((k, p) ∷ held) ++ (k, head_is p 0) ∷ []) (let e : suc k ≡ 0 + suc k = omega arith in e)
-    (ap (λ o. heads_below k ((k, p) ∷ held) ++ with_lane k o) (head_at k (k, p) held (self k))))
+lanes_split k zero p held = (
+  [],
+  subst (λ n. heads_below n ((k, p) ∷ held) ≡ heads_below k ((k, p) ∷ held) ++ (k, head_is p 0) ∷ []) (let e : suc k ≡ 0 + suc k = omega arith in e)
+      (ap (λ o. heads_below k ((k, p) ∷ held) ++ with_lane k o) (head_at k (k, p) held (self k))),
+)
   where
     self : (n : ℕ) → nat_eq n n ≡ true
     self n = ⊎_elim (λ e. e) (λ e. absurd (true≢false (sym (eq-eqb n n refl) ∙ e))) (cases_Bool (nat_eq n n))
 lanes_split k (suc d) p held =
     let on = lanes_split k d p held in
-    let more = with_lane (d + suc k) (lane_head (d + suc k) ((k, p) ∷ held)) in
-    (on.0 ++ more, subst (λ n. heads_below n ((k, p) ∷ held) ≡ heads_below k ((k, p) ∷ held) ++ (k, head_is p 0) ∷ (on.0 ++ more)) (let e : suc (d + suc k) ≡ suc d + suc k = omega arith in e)
-    (ap (λ l. l ++ more) on.1 ∙ append_assoc (heads_below k ((k, p) ∷ held)) ((k, head_is p 0) ∷ on.0) more))
+    let more = with_lane (d + suc k) (lane_head (d + suc k) ((k, p) ∷ held)) in (
+      on.0 ++ more,
+      subst (λ n. heads_below n ((k, p) ∷ held) ≡ heads_below k ((k, p) ∷ held) ++ (k, head_is p 0) ∷ (on.0 ++ more)) (let e : suc (d + suc k) ≡ suc d + suc k = omega arith in e)
+          (ap (λ l. l ++ more) on.1 ∙ append_assoc (heads_below k ((k, p) ∷ held)) ((k, head_is p 0) ∷ on.0) more),
+    )
 
 pub front_next : (n k : ℕ) (p : Piece) (held : Held) → k < n → IsNextPlace (next_lane 0 n ((k, p) ∷ held)) ((k, p) ∷ held) (Some (k, 0))
 front_next n k p held less =
     let split = lanes_split k (n - suc k) p held in
-    let n_is : (n - suc k) + suc k ≡ n = omega (arith, less) in
-    (ap (λ m. next_lane 0 m ((k, p) ∷ held)) (sym n_is) ∙ ap (λ hs. option_map (λ h. h.0) (first_head 0 hs)) split.1
-    ∙ ap (option_map (λ h. h.0)) (first_zero (heads_below k ((k, p) ∷ held)) split.0 (k, head_is p 0) refl (behind_lanes k k p held (omega arith))),
-    head_stands k ((k, p) ∷ held) (head_is p 0) (head_at k (k, p) held (eq-eqb k k refl)))
+    let n_is : (n - suc k) + suc k ≡ n = omega (arith, less) in (
+      ap (λ m. next_lane 0 m ((k, p) ∷ held)) (sym n_is) ∙ ap (λ hs. option_map (λ h. h.0) (first_head 0 hs)) split.1
+          ∙ ap (option_map (λ h. h.0)) (first_zero (heads_below k ((k, p) ∷ held)) split.0 (k, head_is p 0) refl (behind_lanes k k p held (omega arith))),
+      head_stands k ((k, p) ∷ held) (head_is p 0) (head_at k (k, p) held (eq-eqb k k refl)),
+    )

@@ -1,15 +1,11 @@
 -- What turns, vectors, lanes and journals have in common with no log beside them.
-use Rattle.std.proofs.Common.{◌≡◌, ◌≢◌, ◌⊎◌, ◌||◌, ℕ, ◌+◌, ◌≤◌, zero, suc, Bool, true, false, not, List, [], ◌∷◌, ◌++◌, append-nil, append_assoc, length, map, Option, Some, None, Ok, Err, Result, IsTrue, IsFalse, IfSome, is_some, filter, slice_get, slice_set, nat_eq, nat_lt, if◌then◌else◌, refl, ap, sym, ◌∙◌, subst, inl, inr, ⊎_elim, true≢false, arith}
-use Rattle.std.specs.List.{last_or, find, list_all, list_any, AllByRecursion, AllZip}
+use Rattle.std.proofs.Common.{◌≡◌, ◌⊎◌, ◌||◌, ℕ, zero, suc, Bool, true, false, List, [], ◌∷◌, ◌++◌, Option, Some, None, IsFalse, slice_get, if◌then◌else◌, refl, ap, sym, ◌∙◌, subst, inl, inr, ⊎_elim, true≢false}
+use Rattle.std.specs.List.{list_all, list_any, AllByRecursion}
 use Rattle.std.specs.Option.{option_or}
-use Rattle.std.specs.Ordering.{int_eq}
-use Rattle.std.proofs.lemmas.Bool.{and_parts, cases_Bool, eqb-true}
-use Rattle.std.proofs.lemmas.Bool.Decides.{Decides-int_eq}
-use Rattle.std.proofs.lemmas.Option.{slice_get_within}
+use Rattle.std.proofs.lemmas.Bool.{and_parts, cases_Bool}
 use Rattle.std.proofs.Math.Bool.{or-false}
 use Rattle.vs_base.specs.declared.ShardName.{ShardName}
 use Rattle.vs_base.specs.declared.Gtid.{Gtid}
-use Rattle.vs_base.specs.declared.LastKey.{LastKey}
 use Rattle.vs_base.specs.Names.{same_name, same_gtid}
 use Rattle.vs_base.proofs.NameLemmas.{same_name-is, same_name-refl}
 use Rattle.vs_gtid.specs.declared.JournalValue.{JournalValue}
@@ -18,57 +14,20 @@ use Rattle.vs_gtid.specs.declared.Entry.{Entry}
 use Rattle.vs_gtid.specs.Joins.{added}
 use Rattle.vs_gtid.specs.Journals.{same_journal}
 use Rattle.vs_gtid.specs.Positions.{Position, has}
-use Rattle.vs_gtid.specs.Vectors.{Vector, Place, IsCanonicalPlace, IsCanonicalVector, Copies, place_of, stands, moved, switched, Streams, is_in}
-use Rattle.vs_gtid.specs.Vectors.Place.{Fresh, Copying, Streaming}
+use Rattle.vs_gtid.specs.Vectors.{Vector, Place, IsCanonicalPlace, IsCanonicalVector, place_of, stands, is_in}
 use Rattle.vs_gtid.proofs.JoinLemmas.{has-added}
-use Rattle.vs_gtid.proofs.SameJournals.{same_journal-is}
-use Rattle.vs_model.specs.Logs.{Cluster, Image, LogsAreDistinct, IsPositionAfter, journal_of, log_of, due, stop, after, first_own, own_of, own_journal, is_own}
-use Rattle.vs_model.specs.Copy.{Filter}
-use Rattle.vs_model.specs.Frames.{Frame as Sending, vector_after, last_vector, is_no_beat}
-use Rattle.vs_model.specs.Frames.Frame.{Switch as SwitchFrame, Halt as HaltFrame, AllCopied as AllCopiedFrame, Beat as BeatFrame}
-use Rattle.vs_model.specs.Legal.{Legal, HasGathered, NoneCopies, NoParticipantStands, AllCopiedFollows, IsCopyDoneFrame}
-use Rattle.vs_model.specs.Steps.{Step, Steps}
-use Rattle.vs_model.specs.Core.{Piece as Given, PlaceAfter, AreGiven, HasBase, HasAllCopied, IsNoStranger, frame_of, ends_copies, some_copies}
-use Rattle.vs_model.specs.Core.Piece.{Transaction, CopiedRows, CopyEnd}
-use Rattle.vs_model.proofs.Each.{all_append, all_filtered, all_of_two, all_weaker}
-use Rattle.vs_model.proofs.Lists.{cons_is_not_nil, some_is_not_none, same_some}
-use Rattle.vs_model.proofs.Places.{at_name, past_name, same_position, streams_or_copies, place_of-moved, place_of-moved_other, place_of-switched}
-use Rattle.vs_model.proofs.Runs.{AllZip-append, last_vector-append, steps_are_legal}
-use Rattle.vs_model.proofs.Resumed.{steps_both}
-use Rattle.vs_model.proofs.OneStep.{step_all_copied, step_beat, step_halt, step_switch}
-use Rattle.vs_model.proofs.Given.{given_on, base_on, at_journal}
-use Rattle.vs_model.proofs.Gate.{after_piece, piece_step}
-use Rattle.vs_model.proofs.CoreRuns.{not_nil, left_nil, none_copies, follows_one, last_frame, due_of_piece, not_all_copied}
-use Rattle.vs_request.specs.declared.request.Flags.{Flags}
-use Rattle.vs_render.specs.Bodies.{Rendered, HeldBody}
-use Rattle.vs_render.specs.declared.piece.Piece.{Piece}
-use Rattle.vs_render.specs.declared.piece.Piece.TheVariants as piece
-use Rattle.vs_render.specs.declared.piece.EndCause.TheVariants as cause
-use Rattle.vs_base.specs.Limits.{most_intervals}
-use Rattle.vs_vector.specs.Places.{place_position}
-use Rattle.vs_vector.specs.Changes.{place_with, limited_place, moved_to, advanced_from, advanced, set_to}
-use Rattle.vs_vector.specs.declared.refusal.VectorRefusal.TheVariants.{Absent, TooManyIntervals}
-use Rattle.vs_gather.specs.Gathering.{Arrived, concerns, arrival, arrival_unless, arrives, arrived_of, kept_of, arrival_refusal, first_of, differs, clash, clash_of, kept_with, kept_without, has_id, adds_nothing, have_all_arrived}
-use Rattle.vs_gather.specs.Gathering.Arrived.{StillWaits, Completes}
+use Rattle.vs_model.specs.Logs.{IsPositionAfter, journal_of, first_own, own_of, own_journal, is_own}
+use Rattle.vs_model.proofs.Lists.{some_is_not_none, same_some}
+use Rattle.vs_model.proofs.Places.{at_name, past_name}
+use Rattle.vs_gather.specs.Gathering.{first_of, differs, clash_of, kept_with, has_id}
 use Rattle.vs_gather.specs.declared.kept.Kept.{Kept}
 use Rattle.vs_gather.specs.declared.refusal.GatherRefusal.{GatherRefusal}
 use Rattle.vs_gather.specs.declared.refusal.GatherRefusal.TheVariants.{Differs, Clash}
 use Rattle.vs_core.specs.declared.lane.LaneState.{LaneState}
 use Rattle.vs_core.specs.declared.lane.LaneState.TheVariants.{Live, AtEnd, Failed, Over}
 use Rattle.vs_core.specs.declared.refusal.CoreRefusal.{CoreRefusal}
-use Rattle.vs_core.specs.declared.refusal.CoreRefusal.TheVariants.{Stranger, TooManyShards}
-use Rattle.vs_core.specs.Choices.{held_of, without_head}
-use Rattle.vs_core.specs.Machine.{CoreState, CoreEvent, Sent, TurnTold, Turned, Goes, MayBegin, MayTake, arrived_by, completed, switched_to, turned, with_next, with_pieces, chosen_lane, handled_of, handled_by, moved_by, copied_by, ended_by, failed_by, at_rest, initial, in_state, is_done, is_stuck, failures, has_live, is_live, states_of}
-use Rattle.vs_core.specs.Machine.Goes.{begins, takes, turns, beats}
-use Rattle.vs_core.specs.Machine.CoreEvent.{Begin, Take, Turn, Beat}
-use Rattle.vs_core.specs.Machine.Sent.{SentBody, SentCopyDone, SentSwitch, SentHalt, SentAllCopied, SentBeat}
+use Rattle.vs_core.specs.Machine.{CoreState, Sent, TurnTold, is_live, states_of}
 use Rattle.vs_core.specs.Machine.Turned.{Went, Refused}
-use Rattle.vs_core.specs.Machine.TurnTold.{Restart, Ended, Arrives, Halted, Switched, AllCopied, Done, Stuck, Nothing}
-use Rattle.vs_core.specs.Runs.StreamRun.{starts, goes_on}
-use Rattle.vs_core.specs.Runs.{BodySpelling, StreamRun, Shows, ArePosted, ArePostedFrom, IsSentFrame, IsLegalStream, pieces_taken, takes_of}
-use Rattle.vs_core.proofs.Slots.{all_found, at_append, append_at, at_set, set_other, length_set, length_more, if_some, none_any, none_found}
-use Rattle.vs_core.proofs.HeldPieces.{all_without_head, held_append, held_other, held_parts, held_past, lane_held, none_held, not_same}
-use Rattle.vs_core.proofs.Ends.{CopiesOrEnded, SomeCopies, ends_now, ends_piece, ends_still}
 
 -- a place of a canonical vector is canonical
 pub canonical_at : (v : Vector) (s : ShardName) (place : Place) → place_of v s ≡ Some place → IsCanonicalVector v → IsCanonicalPlace place

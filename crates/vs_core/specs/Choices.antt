@@ -1,6 +1,6 @@
 -- Which lane's piece leaves next.
 use Rattle.std.specs.List.{remove}
-use Rattle.std.specs.Prelude.{◌≡◌, slice_get, ℕ, zero, suc, ◌+◌, Bool, List, [], ◌∷◌, ◌++◌, Option, Some, None, if◌then◌else◌, nat_eq, nat_le, option_map}
+use Rattle.std.specs.Prelude.{◌≡◌, slice_get, ℕ, zero, suc, Bool, List, [], ◌∷◌, ◌++◌, Option, Some, None, if◌then◌else◌, nat_eq, nat_le, option_map}
 use Rattle.std.specs.Set.{remove_key}
 use Rattle.vs_pace.specs.declared.head.Head.{Head}
 use Rattle.vs_pace.specs.Heads.{rank}

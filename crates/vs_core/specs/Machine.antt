@@ -1,10 +1,10 @@
 -- The core of a stream as a plain machine: lanes begin, pieces are taken, and each turn handles one.
-use Rattle.std.specs.Prelude.{◌≡◌, ℕ, ◌+◌, Bool, true, false, not, ◌&&◌, ◌||◌, List, [], ◌∷◌, ◌++◌, map, length, Option, Some, None, Result, Ok, Err, IsTrue, if◌then◌else◌, nat_lt, slice_get, slice_set, ℤ}
+use Rattle.std.specs.Prelude.{◌≡◌, ℕ, Bool, true, false, not, ◌&&◌, ◌||◌, List, [], ◌∷◌, ◌++◌, map, length, Option, Some, None, Result, Ok, Err, IsTrue, if◌then◌else◌, nat_lt, slice_get, slice_set, ℤ}
 use Rattle.std.specs.List.{filter, list_all, list_any}
 use Rattle.vs_base.specs.declared.ShardName.{ShardName}
 use Rattle.vs_base.specs.Names.{same_name}
 use Rattle.vs_gtid.specs.declared.JournalValue.{JournalValue}
-use Rattle.vs_gtid.specs.Vectors.{Vector, IsCanonicalVector, stands, names, switched, is_in}
+use Rattle.vs_gtid.specs.Vectors.{Vector, IsCanonicalVector, stands, names, switched}
 use Rattle.vs_gtid.specs.Vectors.Place.{Copying, Streaming}
 use Rattle.vs_model.specs.Core.{some_copies}
 use Rattle.vs_request.specs.declared.request.Flags.{Flags}

@@ -1,11 +1,11 @@
 -- Runs of the core, the newest event first; what was taken of each lane; what a lane's pieces owe; and what the law says of a run.
-use Rattle.std.specs.Prelude.{◌≡◌, ◌≢◌, ℕ, ◌<◌, Bool, false, List, [], ◌∷◌, ◌++◌, Option, Some, None, IsTrue, IsFalse, IfSome, length, nat_eq, if◌then◌else◌, slice_get}
+use Rattle.std.specs.Prelude.{◌≡◌, ◌≢◌, ℕ, Bool, false, List, [], ◌∷◌, ◌++◌, Option, Some, None, IsFalse, length, nat_eq, if◌then◌else◌}
 use Rattle.std.specs.List.{AllZip}
 use Rattle.vs_base.specs.declared.ShardName.{ShardName}
 use Rattle.vs_gtid.specs.declared.JournalValue.{JournalValue}
 use Rattle.vs_gtid.specs.declared.Entry.{Entry}
 use Rattle.vs_gtid.specs.Vectors.{Vector, Place, Copies, place_of}
-use Rattle.vs_model.specs.Logs.{Cluster, Image, LogsAreDistinct, journal_of, log_of, is_own}
+use Rattle.vs_model.specs.Logs.{Cluster, Image, journal_of, log_of}
 use Rattle.vs_model.specs.Copy.{Filter}
 use Rattle.vs_model.specs.Frames.{Frame, last_vector}
 use Rattle.vs_model.specs.Frames.Frame.{Tx as TxFrame, Chunk as ChunkFrame, CopyDone as CopyDoneFrame, Switch as SwitchFrame, Halt as HaltFrame, AllCopied as AllCopiedFrame, Beat as BeatFrame}

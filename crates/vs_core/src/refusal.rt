@@ -7,23 +7,11 @@ use vs_render::EndCause;
 #[derive(Debug, Drop)]
 pub enum CoreRefusal {
     Gathering(GatherRefusal),
-    Stranger {
-        id: i64,
-        shard: ShardName,
-    },
-    PositionTooLarge {
-        name: ShardName,
-    },
-    TooManyShards {
-        n: usize,
-    },
-    Lane {
-        name: ShardName,
-        cause: EndCause,
-    },
-    Spent {
-        name: ShardName,
-    },
+    Stranger { id: i64, shard: ShardName },
+    PositionTooLarge { name: ShardName },
+    TooManyShards { n: usize },
+    Lane { name: ShardName, cause: EndCause },
+    Spent { name: ShardName },
     Memory,
 }
 
