@@ -1,5 +1,5 @@
 -- What the steps of a change make of a vector.
-use Rattle.std.proofs.Common.{◌≡◌, ℕ, suc, ◌+◌, ◌<◌, ◌≤◌, ◌⊎◌, Bool, true, false, not, List, [], ◌∷◌, ◌++◌, map, filter, length, Option, Some, None, Result, Ok, Err, OnOk, OnErr, IfErr, is_some, nat_lt, refl, ap, sym, subst, ◌∙◌, inl, inr, ⊎_elim, if◌then◌else◌, arith, append_assoc, length-append}
+use Rattle.std.proofs.Common.{◌≡◌, ℕ, ◌+◌, ◌<◌, ◌≤◌, ◌⊎◌, Bool, true, false, not, List, [], ◌∷◌, ◌++◌, map, filter, length, Some, None, Result, Ok, Err, OnOk, OnErr, IfErr, nat_lt, refl, ap, sym, subst, ◌∙◌, inl, inr, ⊎_elim, if◌then◌else◌, arith, append_assoc, length-append}
 use Rattle.std.specs.List.{find, list_any}
 use Rattle.std.proofs.lemmas.Bool.{le-ltb, lt-ltb}
 use Rattle.std.proofs.lemmas.List.{append-nil, length-map}

@@ -1,12 +1,11 @@
 -- What the calls of a map make of the vector that its entries mean.
-use Rattle.std.proofs.Common.{◌≡◌, ℕ, zero, suc, Bool, true, false, List, [], ◌∷◌, ◌++◌, map, slice_get, Option, Some, None, is_some, refl, ap, sym, ◌∙◌, if◌then◌else◌}
+use Rattle.std.proofs.Common.{◌≡◌, ℕ, zero, suc, Bool, true, false, List, [], ◌∷◌, slice_get, Option, Some, None, is_some, refl, ap, ◌∙◌, if◌then◌else◌}
 use Rattle.std.specs.Borrow.{Bor}
 use Rattle.std.specs.Map.{lookup, set_value}
 use Rattle.std.specs.Option.{option_map, option_copied}
-use Rattle.std.proofs.lemmas.Option.{slice_get-map}
 use Rattle.vs_base.specs.declared.ShardName.{ShardName}
 use Rattle.vs_base.specs.Names.{same_name}
-use Rattle.vs_gtid.specs.Vectors.{Vector, Place, place_of, stands, moved, names}
+use Rattle.vs_gtid.specs.Vectors.{place_of, stands, moved, names}
 use Rattle.vs_vector.specs.Places.{entry_place, vector_of}
 use Rattle.vs_vector.specs.declared.place.ShardAt.{ShardAt}
 use Rattle.vs_vector.proofs.VectorLemmas.{same_name-sym}

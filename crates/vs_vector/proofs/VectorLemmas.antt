@@ -1,5 +1,5 @@
 -- Vectors under their changes.
-use Rattle.std.proofs.Common.{◌≡◌, ℕ, suc, ◌+◌, ◌<◌, ◌≤◌, ◌||◌, ◌&&◌, Bool, true, false, not, List, [], ◌∷◌, ◌++◌, map, filter, length, Option, Some, None, is_some, refl, ap, sym, subst, ◌∙◌, if◌then◌else◌, true≢false, arith, append_assoc, length-append}
+use Rattle.std.proofs.Common.{◌≡◌, suc, ◌+◌, ◌<◌, ◌≤◌, ◌||◌, ◌&&◌, Bool, true, false, not, List, [], ◌∷◌, ◌++◌, map, filter, length, Some, None, is_some, refl, ap, sym, ◌∙◌, if◌then◌else◌, true≢false, arith, append_assoc, length-append}
 use Rattle.std.specs.List.{find, list_any, AllByRecursion}
 use Rattle.std.specs.Option.{unwrap_or}
 use Rattle.std.proofs.lemmas.Bool.{and_parts}
@@ -9,7 +9,7 @@ use Rattle.vs_base.specs.Limits.{most_intervals}
 use Rattle.vs_base.specs.Names.{same_name, names_differ}
 use Rattle.vs_base.specs.declared.ShardName.{ShardName}
 use Rattle.vs_base.proofs.NameLemmas.{same_name-is, same_name-refl}
-use Rattle.vs_gtid.specs.Vectors.{Place, Vector, place_of, stands, moved, names, IsCanonicalPlace, IsCanonicalVector}
+use Rattle.vs_gtid.specs.Vectors.{Place, Vector, place_of, stands, moved, names, IsCanonicalPlace}
 use Rattle.vs_vector.specs.Places.{IsLawfulPlace, IsVector, most_shards, place_position}
 
 both : (x y : Bool) → x ≡ true → y ≡ true → (x && y) ≡ true

@@ -6,6 +6,8 @@ mod message;
 mod place;
 mod refusal;
 mod replace;
+#[cfg(test)]
+mod tests;
 mod vector;
 
 pub use place::{Place, ShardAt};

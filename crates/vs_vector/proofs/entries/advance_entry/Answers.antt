@@ -1,7 +1,6 @@
-use Rattle.std.proofs.Common.{◌≡◌, Some, None, Err, refl, ap, sym, ◌∙◌, inr}
+use Rattle.std.proofs.Common.{Err, refl, ap, sym, ◌∙◌, inr}
 use Rattle.std.specs.Option.{option_map}
 use Rattle.vs_base.specs.Names.{same_name}
-use Rattle.vs_gtid.specs.Vectors.{moved, place_of}
 use Rattle.vs_vector.specs.Changes.{advanced_from, moved_to}
 use Rattle.vs_vector.specs.Places.{entry_place, vector_of}
 use Rattle.vs_vector.specs.declared.refusal.VectorRefusal.TheVariants.{Absent}

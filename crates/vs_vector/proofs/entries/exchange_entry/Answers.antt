@@ -1,7 +1,7 @@
-use Rattle.std.proofs.Common.{◌≡◌, Bool, true, false, Some, None, is_some, refl, ap, sym, subst, ◌∙◌, true≢false}
+use Rattle.std.proofs.Common.{true, false, Some, is_some, refl, ap, sym, subst, ◌∙◌, true≢false}
 use Rattle.std.specs.Option.{option_map}
 use Rattle.vs_base.specs.Names.{same_name}
-use Rattle.vs_gtid.specs.Vectors.{moved, place_of, stands}
+use Rattle.vs_gtid.specs.Vectors.{moved}
 use Rattle.vs_vector.specs.Places.{IsVector, entry_place, vector_of}
 use Rattle.vs_vector.proofs.EntryLemmas.{looked_up, value_set}
 use Rattle.vs_vector.proofs.VectorLemmas.{IsVector-moved}
