@@ -1,0 +1,20 @@
+//! The core of a stream: it takes the pieces of lanes, and handles one a turn.
+#![tactic(auto)]
+
+mod gate;
+mod lane;
+mod laws;
+mod machine;
+mod refusal;
+mod rest;
+#[cfg(test)]
+mod tests;
+
+pub use lane::LaneState;
+pub use laws::{law_bytes, law_next, law_runs};
+pub use machine::Core;
+pub use refusal::CoreRefusal;
+pub use rest::Rest;
+
+/// The one fault of a call that only takes memory.
+pub type OutOfMemory = std::alloc::AllocError;
