@@ -20,7 +20,7 @@ use Rattle.vs_proto.specs.declared.vgtid.VGtid.{VGtid}
 use Rattle.vs_proto.specs.declared.event_kind.TheConstants.{FIELD, ROW, VGTID}
 use Rattle.vs_render.specs.Events.{EventHead, Changed, Columns, event_of, field_event_of, field_of, plain_event, row_event_of, table_name, type_number, vector_event}
 use Rattle.vs_render.specs.Spelling.{event_around, event_end, event_start, said_bytes}
-use Rattle.vs_render.specs.Vgtids.{row_of}
+use Rattle.vs_vector.specs.Messages.{row_of}
 
 -- ---- events
 

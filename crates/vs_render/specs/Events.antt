@@ -23,7 +23,7 @@ use Rattle.vs_proto.specs.declared.vgtid.VGtid.{VGtid}
 use Rattle.vs_gtid.specs.Vectors.{Vector}
 use Rattle.vs_model.specs.Frames.{Frame}
 use Rattle.vs_render.specs.Journals.{journal_of}
-use Rattle.vs_render.specs.Vgtids.{row_of, vgtid_of}
+use Rattle.vs_vector.specs.Messages.{row_of, vgtid_of}
 use Rattle.vs_model.specs.Frames.Frame.{Tx, Switch, Halt, Chunk, CopyDone, AllCopied, Beat}
 
 -- ---- what the events of a frame say

@@ -3,7 +3,7 @@ use Rattle.std.specs.Prelude.{[], map, pos, if◌then◌else◌}
 use Rattle.vs_gtid.specs.declared.JournalValue.{JournalValue}
 use Rattle.vs_gtid.specs.Vectors.{successors_of}
 use Rattle.vs_proto.specs.declared.journal.Journal.{Journal}
-use Rattle.vs_render.specs.Vgtids.{shard_gtids_of}
+use Rattle.vs_vector.specs.Messages.{shard_gtids_of}
 
 -- its id, its kind, its successors and its participants
 abbrev pub journal_of : JournalValue → Journal

@@ -1,4 +1,3 @@
-pub mod Vgtids
 pub mod Journals
 pub mod Groups
 pub mod Events

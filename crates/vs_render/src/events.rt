@@ -12,7 +12,7 @@ ghost use Rattle.vs_render.specs.Events.{
   table_name,
   type_number,
 };
-ghost use Rattle.vs_render.specs.Vgtids.{row_of};
+ghost use Rattle.vs_vector.specs.Messages.{row_of};
 ghost use Rattle.vs_base.specs.Rows.{cell_bytes, cell_length};
 
 use crate::OutOfMemory;

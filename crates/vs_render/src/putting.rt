@@ -22,7 +22,7 @@ ghost use Rattle.vs_gtid.specs.Vectors.{Vector};
 ghost use Rattle.vs_render.specs.Groups.{at_last};
 ghost use Rattle.vs_render.specs.Bodies.{frame_with, pieces, total_length};
 ghost use Rattle.vs_render.specs.Events.{head_of, vector_event};
-ghost use Rattle.vs_render.specs.Vgtids.{vgtid_of};
+ghost use Rattle.vs_vector.specs.Messages.{vgtid_of};
 
 use crate::room::Room;
 use crate::spelling::put_vector;

@@ -30,7 +30,7 @@ ghost use Rattle.vs_proto.specs.Tables.{row};
 ghost use Rattle.vs_render.specs.Events.{Changed, head_of, table_name};
 ghost use Rattle.vs_render.specs.Rendering.{IsRowOf, taken_change};
 ghost use Rattle.vs_render.specs.Spelling.{said_bytes};
-ghost use Rattle.vs_render.specs.Vgtids.{row_of};
+ghost use Rattle.vs_vector.specs.Messages.{row_of};
 
 use crate::OutOfMemory;
 use crate::spelling::{put_event_around, put_text};

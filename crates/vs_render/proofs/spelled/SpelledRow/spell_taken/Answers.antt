@@ -9,7 +9,7 @@ use Rattle.vs_wire.specs.Fields.{field_bytes, sized}
 use Rattle.vs_render.specs.Events.{head_of, table_name}
 use Rattle.vs_render.specs.Rendering.{taken_change}
 use Rattle.vs_render.specs.Spelling.{event_around}
-use Rattle.vs_render.specs.Vgtids.{row_of}
+use Rattle.vs_vector.specs.Messages.{row_of}
 use Rattle.vs_render.proofs.EventLemmas.{change_put}
 use Rattle.vs_render.proofs.spelled.SpelledRow.spell_taken.Goals as goal
 
