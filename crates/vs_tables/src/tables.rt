@@ -1,5 +1,6 @@
 ghost use Rattle.std.specs.Prelude.{
   ◌≡◌,
+  ◌⊎◌,
   Err,
   IfErr,
   IfOk,
@@ -141,7 +142,7 @@ impl Tables {
     /// Refuses for good.
     fn refuse(&mut self, why: TableRefusal) -> TableRefusal
         ensures refused { self.new.refused ≡ Some result }
-        ensures why { Unless TableRefusal.Memory (Err result) (Err why) }
+        ensures why { (result ≡ TableRefusal.Memory) ⊎ (result ≡ why) }
     {
         match why.copy(self.alloc) {
             Ok(told) => {
