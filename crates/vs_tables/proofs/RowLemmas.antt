@@ -137,6 +137,7 @@ module _ (kinds : List ColumnKind) (places : List ℕ) where
       where
         head : AllByRecursion (λ q. parts_order e.0 q ≡ Less) (keys_of es)
         head = sorted_head parts_order e.0 (keys_of es) sorted
+
         go : (o : Ordering) → parts_order (at key) e.0 ≡ o →
             values_of (insert_entry parts_order es (at key) row)
             ≡ filter (λ r. is_gt (against key r)) (values_of es) ++ row ∷ filter (λ r. is_lt (against key r)) (values_of es) →

@@ -27,11 +27,7 @@ fn part_of(alloc: Global, kind: ColumnKind, cell: &Cell) -> Result<KeyPart, OutO
     }
 }
 
-fn part_at(
-    alloc: Global,
-    kind: Option<&ColumnKind>,
-    cell: &Cell,
-) -> Result<KeyPart, OutOfMemory>
+fn part_at(alloc: Global, kind: Option<&ColumnKind>, cell: &Cell) -> Result<KeyPart, OutOfMemory>
     ensures { IfOk result (λ part. part ≡ part_at (option_copied kind.entry) cell.now) }
 {
     match kind {

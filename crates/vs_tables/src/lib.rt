@@ -5,6 +5,8 @@ mod key;
 mod keyed;
 mod refusal;
 mod tables;
+#[cfg(test)]
+mod tests;
 
 pub use key::KeyPart;
 pub use keyed::KeyedRows;
