@@ -1,8 +1,8 @@
 -- Rows in a map from their keys.
-use Rattle.std.proofs.Common.{◌≡◌, ℕ, Bool, true, false, not, cond, ◌||◌, ◌&&◌, List, [], ◌∷◌, ◌++◌, Option, Some, None, is_some, filter, find, refl, ap, sym, subst, ◌∙◌}
+use Rattle.std.proofs.Common.{◌≡◌, ℕ, Bool, true, false, not, cond, ◌||◌, ◌&&◌, List, [], ◌∷◌, ◌++◌, Option, Some, None, is_some, filter, refl, ap, sym, subst, ◌∙◌}
 use Rattle.std.specs.BTreeMap.{insert_entry, is_at}
 use Rattle.std.specs.BTreeMap.Range.{entries_between}
-use Rattle.std.specs.List.{AllByRecursion, list_any, slice_get}
+use Rattle.std.specs.List.{AllByRecursion, list_any}
 use Rattle.std.specs.List.Sorted.{IsStrictlySortedBy}
 use Rattle.std.specs.Map.{keys_of, lookup, remove_entry, values_of}
 use Rattle.std.specs.Ordering.{is_eq, is_gt, is_lt, match_ordering, ordering_reverse}
@@ -14,8 +14,8 @@ use Rattle.vs_base.specs.declared.cell.Cell.{Cell}
 use Rattle.vs_base.specs.declared.table.ColumnKind.{ColumnKind}
 use Rattle.vs_base.specs.Keys.{key_order, project}
 use Rattle.vs_tables.specs.declared.key.KeyPart.{KeyPart}
-use Rattle.vs_tables.specs.Parts.{parts_of}
-use Rattle.vs_tables.specs.Rows.{StandAtKeys, TableRows, parts_order}
+use Rattle.vs_tables.specs.Parts.{fits_limits, parts_of}
+use Rattle.vs_tables.specs.Rows.{AreKept, AreLawfulRows, RowsAscend, StandAtKeys, TableRows, parts_order}
 use Rattle.vs_tables.proofs.PartLemmas.{ordered_alike, parts_exact, parts_total}
 
 module _ (kinds : List ColumnKind) (places : List ℕ) where
@@ -152,24 +152,70 @@ module _ (kinds : List ColumnKind) (places : List ℕ) where
         go Greater is rest =
             rw (sym (compared key e stand.0) ∙ is) (ap (λ rows. e.1 ∷ rows) rest)
 
-first_kept : (test : List Cell → Bool) (rows : List (List Cell)) → slice_get (filter test rows) 0 ≡ find test rows
-first_kept test [] = refl
-first_kept test (row ∷ rows) = go (test row) (first_kept test rows)
-  where
-    go : (b : Bool) → slice_get (filter test rows) 0 ≡ find test rows →
-        slice_get (cond b (row ∷ filter test rows) (filter test rows)) 0 ≡ cond b (Some row) (find test rows)
-    go true rest = refl
-    go false rest = rest
+-- what holds of each row
+module _ (P : List Cell → Type 0) where
+  pub each_without : (test : List KeyPart → Bool) (es : List (List KeyPart × List Cell)) → AllByRecursion (λ (e : List KeyPart × List Cell). P e.1) es →
+      AllByRecursion (λ (e : List KeyPart × List Cell). P e.1) (remove_entry test es)
+  each_without test [] all = tt
+  each_without test (e ∷ es) all = go (test e.0) (each_without test es all.1)
+    where
+      go : (b : Bool) → AllByRecursion (λ (f : List KeyPart × List Cell). P f.1) (remove_entry test es) →
+          AllByRecursion (λ (f : List KeyPart × List Cell). P f.1) (cond b es (e ∷ remove_entry test es))
+      go true rest = all.1
+      go false rest = (all.0, rest)
 
--- the first of the entries above a key
-pub first_above : (kinds : List ColumnKind) (places : List ℕ) (key : List Cell) (parts : List KeyPart) (es between : Entries kinds places) →
+  pub each_with : (parts : List KeyPart) (row : List Cell) (es : List (List KeyPart × List Cell)) → P row → AllByRecursion (λ (e : List KeyPart × List Cell). P e.1) es →
+      AllByRecursion (λ (e : List KeyPart × List Cell). P e.1) (insert_entry parts_order es parts row)
+  each_with parts row [] p all = (p, tt)
+  each_with parts row (e ∷ es) p all = go (parts_order parts e.0) (each_with parts row es p all.1)
+    where
+      go : (o : Ordering) → AllByRecursion (λ (f : List KeyPart × List Cell). P f.1) (insert_entry parts_order es parts row) →
+          AllByRecursion (λ (f : List KeyPart × List Cell). P f.1) (match_ordering o ((parts, row) ∷ e ∷ es) ((e.0, row) ∷ es) (e ∷ insert_entry parts_order es parts row))
+      go Less rest = (p, all)
+      go Equal rest = (p, all.1)
+      go Greater rest = (all.0, rest)
+
+  each_row : (es : List (List KeyPart × List Cell)) → AllByRecursion (λ (e : List KeyPart × List Cell). P e.1) es → AllByRecursion P (values_of es)
+  each_row [] all = tt
+  each_row (e ∷ es) all = (all.0, each_row es all.1)
+
+-- the entries above a key
+pub rows_above : (kinds : List ColumnKind) (places : List ℕ) (key : List Cell) (parts : List KeyPart) (es between : Entries kinds places) →
     parts ≡ parts_of kinds key → StandAtKeys kinds places es → between ≡ entries_between parts_order (Bound.Excluded parts) Bound.Unbounded es →
-    slice_get (values_of between) 0 ≡ find (λ row. is_lt (key_order kinds key (project places row))) (values_of es)
-first_above kinds places key parts es between is stand e =
-    ap (λ l. slice_get (values_of l) 0) (e ∙ ap (λ k. entries_between parts_order (Bound.Excluded k) Bound.Unbounded es) is)
-    ∙ ap (λ l. slice_get l 0) (above kinds places key es stand)
-    ∙ first_kept (λ row. is_lt (key_order kinds key (project places row))) (values_of es)
+    values_of between ≡ filter (λ row. is_lt (key_order kinds key (project places row))) (values_of es)
+rows_above kinds places key parts es between is stand e =
+    ap values_of (e ∙ ap (λ k. entries_between parts_order (Bound.Excluded k) Bound.Unbounded es) is) ∙ above kinds places key es stand
+
+-- all entries
+all_between : (es : List (List KeyPart × List Cell)) → entries_between parts_order Bound.Unbounded Bound.Unbounded es ≡ es
+all_between [] = refl
+all_between (e ∷ es) = ap (λ l. e ∷ l) (all_between es)
+
+pub all_rows : (es between : List (List KeyPart × List Cell)) → between ≡ entries_between parts_order Bound.Unbounded Bound.Unbounded es → values_of between ≡ values_of es
+all_rows es between is = ap values_of (is ∙ all_between es)
 
 -- a table of these parts
 abbrev pub table_of : List ℕ → List ℕ → List ColumnKind → List (List Cell) → TableRows
 table_of name places kinds rows = record { name = name; places = places; kinds = kinds; rows = rows }
+
+-- the rows of kept entries ascend
+module _ (name places : List ℕ) (kinds : List ColumnKind) (all : List (List Cell)) where
+  stand_behind : (e : List KeyPart × List Cell) (es : Entries kinds places) → e.0 ≡ parts_of kinds (project places e.1) → StandAtKeys kinds places es →
+      AllByRecursion (λ q. parts_order e.0 q ≡ Less) (keys_of es) → AllByRecursion (λ next. key_order kinds (project places e.1) (project places next) ≡ Less) (values_of es)
+  stand_behind e [] own stand h = tt
+  stand_behind e (f ∷ fs) own stand h =
+      (sym (ap (λ k. parts_order k f.0) own ∙ compared kinds places (project places e.1) f stand.0) ∙ h.0, stand_behind e fs own stand.1 h.1)
+
+  ascend : (es : Entries kinds places) → StandAtKeys kinds places es → IsStrictlySortedBy parts_order (keys_of es) →
+      RowsAscend (table_of name places kinds all) (values_of es)
+  ascend [] stand sorted = tt
+  ascend (e ∷ es) stand sorted =
+      (stand_behind e es stand.0 stand.1 (sorted_head parts_order e.0 (keys_of es) sorted), ascend es stand.1 (sorted_tail parts_order e.0 (keys_of es) sorted))
+
+-- what holds of kept entries
+pub lawful : (name places : List ℕ) (kinds : List ColumnKind) (es : List (List KeyPart × List Cell)) → AreKept kinds places es →
+    AreLawfulRows (table_of name places kinds (values_of es))
+lawful name places kinds es kept = record {
+  ascend = ascend name places kinds (values_of es) es kept.keyed kept.ascending;
+  fit = each_row (λ row. fits_limits (project places row) ≡ true) es kept.fit;
+}

@@ -6,7 +6,7 @@ use Rattle.vs_base.specs.declared.cell.Cell.{Cell}
 use Rattle.vs_base.specs.declared.change.Change.{Change}
 use Rattle.vs_base.specs.declared.table.Table.{Table}
 use Rattle.vs_tables.specs.Parts.{fits_limits}
-use Rattle.vs_tables.specs.Rows.{TableRows, has_row_at, is_table_named, next_row, no_rows, row_key, rows_with, rows_without, table_rows}
+use Rattle.vs_tables.specs.Rows.{TableRows, has_row_at, is_table_named, next_row, no_rows, row_key, rows_behind, rows_with, rows_without, table_rows}
 use Rattle.vs_tables.specs.declared.keyed.Unfit.{Unfit}
 use Rattle.vs_tables.specs.declared.refusal.TableRefusal.{TableRefusal}
 use Rattle.vs_tables.specs.declared.refusal.TableRefusal.TheVariants as refusal
@@ -95,6 +95,10 @@ pub record Applied : Type 0 where
   pub tables : List TableRows
   pub refused : Option TableRefusal
 
--- the row behind a key of a table, where there is such a table
+-- the rows behind a key of a table, where there is such a table
+abbrev pub rows_in : List TableRows → List ℕ → Option (List Cell) → Option (List (List Cell))
+rows_in tables name key = option_map (λ t. rows_behind t key) (table_rows tables name)
+
+-- and the first of them
 abbrev pub next_in : List TableRows → List ℕ → Option (List Cell) → Option (List Cell)
 next_in tables name key = option_and_then (λ t. next_row t key) (table_rows tables name)

@@ -1,8 +1,11 @@
-ghost use Rattle.std.specs.Prelude.{◌≡◌, Err, IfErr, IfOk, None, OnErr, OnOk, Some};
+ghost use Rattle.std.specs.Prelude.{◌≡◌, IfErr, IfOk, None, OnOk, Some, true};
+ghost use Rattle.std.specs.BTreeMap.Range.{entries_between};
 ghost use Rattle.std.specs.List.{slice_get};
+ghost use Rattle.std.specs.Map.{values_of};
 ghost use Rattle.std.specs.Option.{option_copied, option_map};
+ghost use Rattle.std.specs.declared.ops.Bound.{Bound};
 ghost use Rattle.vs_base.specs.Keys.{key_kinds};
-ghost use Rattle.vs_tables.specs.Parts.{parts_of};
+ghost use Rattle.vs_tables.specs.Parts.{fits_limits, parts_of};
 ghost use Rattle.vs_tables.specs.Changes.{
   RowFault,
   RowFaultTells,
@@ -13,9 +16,11 @@ ghost use Rattle.vs_tables.specs.Changes.{
   with_gone,
 };
 ghost use Rattle.vs_tables.specs.Rows.{
+  AreLawfulRows,
   has_row_at,
   is_table_named,
-  next_row,
+  parts_order,
+  rows_behind,
   no_rows,
   row_key,
   rows_with,
@@ -25,6 +30,7 @@ ghost use Rattle.vs_tables.specs.Rows.{
 use crate::key::{KeyPart, fits_limits, key_parts, row_parts};
 use std::alloc::{AllocError, Global};
 use std::collections::BTreeMap;
+use std::collections::btree_map::Range;
 use std::marker::Model;
 use std::ops::Bound;
 use vs_base::{Change, Column, ColumnKind, Image, List, OutOfMemory, Table, Text};
@@ -92,6 +98,16 @@ fn key_kinds(alloc: Global, table: &Table) -> Result<List<ColumnKind>, OutOfMemo
     Ok(kinds)
 }
 
+/// The rows behind a key.
+fn above<'a>(
+    rows: &'a BTreeMap<List<KeyPart>, Image>,
+    key: &List<KeyPart>,
+) -> Range<'a, List<KeyPart>, Image>
+    ensures { result ≡ entries_between parts_order (Bound.Excluded key.now) Bound.Unbounded rows.now.entries }
+{
+    rows.range((Bound::Excluded(key), Bound::Unbounded))
+}
+
 impl KeyedRows {
     /// A table without a row.
     pub fn new(alloc: Global, table: &Table) -> Result<KeyedRows, OutOfMemory>
@@ -137,6 +153,7 @@ impl KeyedRows {
 
     /// Puts the row to its key; the one that stands there goes.
     fn put(&mut self, alloc: Global, row: &Image) -> Result<(), OutOfMemory>
+        requires { fits_limits (row_key self.old row.now) ≡ true }
         ensures { OnOk result (self.new ≡ with_come self.old (Some row.now)) }
     {
         let key = self.key(alloc, row)?;
@@ -179,26 +196,19 @@ impl KeyedRows {
         Ok(())
     }
 
-    /// The row with the least key above this one, which is in the order of the table's key; or the first
-    /// row. None where no row has a greater key.
-    pub fn next_after(
+    /// The rows behind a key, which is in the order of the table's key; or all. Each with its key.
+    pub fn rows_after(
         &self,
         alloc: Global,
         key: Option<&Image>,
-    ) -> Result<Option<&Image>, OutOfMemory>
-        ensures { IfOk result (λ row. option_copied row ≡ next_row self.now (option_copied key.entry)) }
+    ) -> Result<Range<'_, List<KeyPart>, Image>, OutOfMemory>
+        ensures rows { IfOk result (λ rows. values_of rows ≡ rows_behind self.now (option_copied key.entry)) }
+        ensures lawful { AreLawfulRows self.now }
     {
         let Some(key) = key else {
-            return Ok(self.rows.values().next());
+            return Ok(self.rows.range(..));
         };
         let parts = key_parts(alloc, self.kinds.as_slice(), key.cells())?;
-        match self
-            .rows
-            .range((Bound::Excluded(&parts), Bound::Unbounded))
-            .next()
-        {
-            Some((_, row)) => Ok(Some(row)),
-            None => Ok(None),
-        }
+        Ok(above(&self.rows, &parts))
     }
 }

@@ -11,6 +11,7 @@ ghost use Rattle.std.specs.Prelude.{
   Some,
   position,
 };
+ghost use Rattle.std.specs.Map.{values_of};
 ghost use Rattle.std.specs.Option.{option_copied, option_map};
 ghost use Rattle.vs_base.specs.Answers.{Unless};
 ghost use Rattle.vs_tables.specs.Changes.{
@@ -19,18 +20,21 @@ ghost use Rattle.vs_tables.specs.Changes.{
   RowFaultTells,
   change_fault_in,
   first_unfit,
+  has_key,
   keyed_tables,
   next_in,
+  rows_in,
   tables_after,
   tables_after_one,
 };
-ghost use Rattle.vs_tables.specs.Rows.{is_table_named};
+ghost use Rattle.vs_tables.specs.Rows.{AreLawfulRows, is_table_named, table_rows};
 
-use crate::TableRefusal;
 use crate::keyed::{KeyedRows, Unfit};
+use crate::{KeyPart, TableRefusal};
 use std::alloc::Global;
+use std::collections::btree_map::Range;
 use std::marker::Model;
-use vs_base::{Change, Image, OutOfMemory, Text};
+use vs_base::{Change, Image, List, OutOfMemory, Table, Text};
 use vs_schema::Schema;
 
 /// The rows of the tables of a schema that have a key, after the changes that were applied.
@@ -56,6 +60,12 @@ fn position(tables: &[KeyedRows], name: &[u8]) -> Option<usize>
     tables.iter().position(|table| table.is_named(name))
 }
 
+fn has_key(table: &Table) -> bool
+    ensures { result ≡ has_key table.now }
+{
+    table.key.as_slice().len() >= 1
+}
+
 impl Tables {
     /// The tables of a schema, without a row.
     pub fn new(alloc: Global, schema: &Schema) -> Result<Tables, OutOfMemory>
@@ -64,7 +74,7 @@ impl Tables {
     {
         let mut tables = Vec::new(alloc);
         for table in schema.tables() {
-            if table.key.as_slice().len() >= 1 {
+            if has_key(table) {
                 tables.push(KeyedRows::new(alloc, table)?)?;
             }
         }
@@ -75,8 +85,26 @@ impl Tables {
         })
     }
 
-    /// The row of a table with the least key above this one, or its first row; the key is in the order of
-    /// the table's key. None where no row has a greater key.
+    /// The rows of a table behind a key, which is in the order of the table's key; or all. Each with its
+    /// key; none where the table has no key.
+    pub fn rows_after(
+        &self,
+        table: &[u8],
+        key: Option<&Image>,
+    ) -> Result<Option<Range<'_, List<KeyPart>, Image>>, OutOfMemory>
+        ensures rows { IfOk result (λ rows. option_map values_of rows ≡ rows_in self.now.tables table.now (option_copied key.entry)) }
+        ensures lawful { IfSome (table_rows self.now.tables table.now) AreLawfulRows }
+    {
+        for rows in self.tables.as_slice() {
+            if rows.is_named(table) {
+                return Ok(Some(rows.rows_after(self.alloc, key)?));
+            }
+        }
+        Ok(None)
+    }
+
+    /// The row of a table with the least key above this one, or its first row. None where no row has a
+    /// greater key.
     pub fn next_after(
         &self,
         table: &[u8],
@@ -84,12 +112,13 @@ impl Tables {
     ) -> Result<Option<&Image>, OutOfMemory>
         ensures { IfOk result (λ row. option_copied row ≡ next_in self.now.tables table.now (option_copied key.entry)) }
     {
-        for rows in self.tables.as_slice() {
-            if rows.is_named(table) {
-                return rows.next_after(self.alloc, key);
-            }
+        let Some(mut rows) = self.rows_after(table, key)? else {
+            return Ok(None);
+        };
+        match rows.next() {
+            Some((_, row)) => Ok(Some(row)),
+            None => Ok(None),
         }
-        Ok(None)
     }
 }
 

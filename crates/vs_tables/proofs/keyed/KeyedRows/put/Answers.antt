@@ -1,11 +1,14 @@
-use Rattle.std.proofs.Common.{◌≡◌, Some, ap, subst, sym, ◌∙◌}
+use Rattle.std.proofs.Common.{◌≡◌, List, Some, true, ap, subst, sym, ◌∙◌}
 use Rattle.std.specs.BTreeMap.{insert_entry}
+use Rattle.std.specs.List.{AllByRecursion}
 use Rattle.std.specs.Map.{values_of}
+use Rattle.vs_base.specs.declared.cell.Cell.{Cell}
+use Rattle.vs_tables.specs.declared.key.KeyPart.{KeyPart}
 use Rattle.vs_base.specs.Keys.{project}
 use Rattle.vs_tables.specs.Changes.{with_come}
-use Rattle.vs_tables.specs.Parts.{parts_of}
+use Rattle.vs_tables.specs.Parts.{fits_limits, parts_of}
 use Rattle.vs_tables.specs.Rows.{StandAtKeys, parts_order, row_key}
-use Rattle.vs_tables.proofs.RowLemmas.{stand_with, table_of, with_one}
+use Rattle.vs_tables.proofs.RowLemmas.{each_with, stand_with, table_of, with_one}
 use Rattle.vs_tables.proofs.keyed.KeyedRows.put.Goals as goal
 
 -- the entries with the row at its key
@@ -23,6 +26,9 @@ invariant_of-self-2 c =
       keyed = subst (StandAtKeys c.self.inside.kinds c.self.inside.places) (sym (one_more c))
           (stand_with c.self.inside.kinds c.self.inside.places c.args.row.now c.self.inside.rows.entries c.self.invariant.keyed);
       ascending = c.insert.ensures.ordered;
+      fit = subst (λ es. AllByRecursion (λ (e : List KeyPart × List Cell). fits_limits (project c.self.inside.places e.1) ≡ true) es) (sym (one_more c))
+          (each_with (λ row. fits_limits (project c.self.inside.places row) ≡ true) (parts_of c.self.inside.kinds (project c.self.inside.places c.args.row.now)) c.args.row.now
+          c.self.inside.rows.entries (ap (λ t. fits_limits (row_key t c.args.row.now)) c.self.view_is ∙ c.requires) c.self.invariant.fit);
     }
 
 pub returns : goal.returns
