@@ -1,0 +1,14 @@
+//! The rows of tables by their keys, after the changes that were applied.
+#![tactic(auto)]
+
+mod key;
+mod keyed;
+mod refusal;
+mod tables;
+#[cfg(test)]
+mod tests;
+
+pub use key::KeyPart;
+pub use keyed::KeyedRows;
+pub use refusal::TableRefusal;
+pub use tables::Tables;
