@@ -6,3 +6,4 @@ pub mod EndLemmas
 pub mod RoomLemmas
 pub mod EventLemmas
 pub mod TakeLemmas
+pub mod BoundLemmas

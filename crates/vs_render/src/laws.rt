@@ -1,10 +1,13 @@
 ghost use Rattle.vs_render.specs.Laws.{
   BodiesMakeFrames,
+  BoundsAreOrdered,
   ChunksMakeFrames,
   FramesEndOnce,
   GroupsAreLongest,
   GroupsAreOne,
 };
+
+use vs_filter::law_keys;
 
 /// A frame is its body with the vector put in.
 
@@ -23,3 +26,10 @@ pub fn law_groups()
 pub fn law_ends()
     ensures { FramesEndOnce }
 {}
+
+/// What rules pick of a schema whose tables ascend is ordered.
+pub fn law_bounds()
+    ensures { BoundsAreOrdered }
+{
+    law_keys();
+}

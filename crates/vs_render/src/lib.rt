@@ -19,7 +19,7 @@ mod tests;
 mod told;
 
 pub use body::Body;
-pub use laws::{law_bodies, law_ends, law_groups};
+pub use laws::{law_bodies, law_bounds, law_ends, law_groups};
 pub use piece::{EndCause, Piece};
 pub use putting::put_frame_with;
 pub use refusal::RenderRefusal;
