@@ -19,6 +19,10 @@ mod refusal;
 mod row;
 mod standing;
 #[cfg(test)]
+mod test_events;
+#[cfg(test)]
+mod test_texts;
+#[cfg(test)]
 mod tests;
 mod took;
 mod walk;

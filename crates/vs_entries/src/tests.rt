@@ -1,40 +1,17 @@
-use crate::{LogRefusal, Reader, Took, law_no_journals, law_part};
+use crate::front::front_event;
+use crate::progress::Progress;
+use crate::test_events::{
+    BEGIN, COMMIT, DROP_S, DROP_T, Event, FIRST_FIVE, FORMAT, INSERTS, JOURNAL, LARGE_QUERY,
+    LARGE_STOP, MAGIC, MAP, NO_BASE, OTHERS, OURS, SAVEPOINT, SHORT_HEAD, XID, put_events,
+    put_head,
+};
+use crate::test_texts::told;
+use crate::{Reader, Took, law_no_journals, law_part};
 use std::alloc::{AllocError, Global};
+use std::process::Abort;
 use std::test::Fail;
 use vs_base::Why;
-use vs_journal::{Entry, Work};
 use vs_schema::Schema;
-
-/// An event of a kind and a body, at a time.
-fn put_event(log: &mut Vec<u8>, time: u32, kind: u8, body: &[u8]) -> Result<(), AllocError> {
-    let mut head = [0; 19];
-    head[..4].copy_from_slice(&time.to_le_bytes());
-    head[4] = kind;
-    head[9..13].copy_from_slice(&((19 + body.len() % 65_536) as u32).to_le_bytes());
-    log.extend_from_slice(&head)?;
-    log.extend_from_slice(body)
-}
-
-/// The magic, and a format description of version 4 without checksums.
-fn front(alloc: Global) -> Result<Vec<u8>, AllocError> {
-    let mut format = [0; 62];
-    format[0] = 4;
-    format[56] = 19;
-    let mut log = Vec::from_slice(alloc, b"\xfebin")?;
-    put_event(&mut log, 1, 15, &format)?;
-    Ok(log)
-}
-
-/// A log of events, of the kinds and bodies that are told, each a second behind the one before.
-fn log_of(alloc: Global, events: &[(u8, &[u8])]) -> Result<Vec<u8>, AllocError> {
-    let mut log = front(alloc)?;
-    let mut time = 99u32;
-    for (kind, body) in events {
-        put_event(&mut log, time, *kind, body)?;
-        time = time.saturating_add(1);
-    }
-    Ok(log)
-}
 
 const SCHEMA: &[u8] = b"table t\ncolumn id int\ncolumn v varchar(20)\nkey id\nskip s\n";
 
@@ -44,39 +21,706 @@ fn reader(alloc: Global) -> Result<Reader, Fail> {
     Ok(Reader::new(alloc, &schema, b"c")?)
 }
 
-/// No base: an empty body of a PREVIOUS_GTIDS event.
-const BASE: (u8, &[u8]) = (35, &[0; 8]);
+/// Events of a log, and what a reader gives of it: its entries, each with its number and its time, and
+/// the fault behind them with its place.
+type Case = (&'static [Event], &'static [u8]);
 
-/// The GTIDs of the UUID `00000000-0000-0000-0000-000000000001` with the numbers 1 and 2.
-const FIRST: (u8, &[u8]) = (
-    33,
-    b"\0\0\0\0\0\0\0\0\0\0\0\0\0\0\0\0\x01\x01\0\0\0\0\0\0\0",
-);
+/// A whole log, how many intervals its base has once it is known, and what a reader gives of it.
+type Front = (&'static [Event], Option<usize>, &'static [u8]);
 
-const SECOND: (u8, &[u8]) = (
-    33,
-    b"\0\0\0\0\0\0\0\0\0\0\0\0\0\0\0\0\x01\x02\0\0\0\0\0\0\0",
-);
-
-const DROP_T: (u8, &[u8]) = (2, b"\0\0\0\0\0\0\0\0\x04\0\0\0\0vt_c\0drop table t");
-
-const DROP_S: (u8, &[u8]) = (2, b"\0\0\0\0\0\0\0\0\x04\0\0\0\0vt_c\0drop table s");
-
-const TWO_DROPS: &[(u8, &[u8])] = &[BASE, FIRST, DROP_T, SECOND, DROP_S];
-
-fn is_drop(entry: &Entry, number: u64, time: u32, name: u8) -> bool {
-    let Work::Ddl(text) = &entry.work else {
-        return false;
-    };
-    entry.gtid.number == number && entry.time == time && text.as_bytes().ends_with(&[name])
+/// How many intervals the base has, once it is known.
+fn intervals_of(reader: &Reader) -> Option<usize> {
+    match reader.base() {
+        Some(base) => Some(base.intervals()),
+        None => None,
+    }
 }
 
-/// Whether the next entry is the change of a table of this name, so numbered, at this time and place.
-fn gives(reader: &mut Reader, number: u64, time: u32, place: u64, name: u8) -> bool {
-    let Ok(Took::Entry { entry, at, .. }) = reader.next_entry() else {
+fn check_front(rt: &impl Abort, alloc: Global, case: &Front) -> Result<(), Fail> {
+    let (events, base, wanted) = case;
+    let mut log = Vec::new(alloc);
+    put_events(&mut log, 98, events)?;
+    let mut reader = reader(alloc)?;
+    reader.feed(log.as_slice())?;
+    assert_eq!(rt; intervals_of(&reader), *base);
+    let text = told(alloc, &mut reader)?;
+    assert_eq!(rt; text.as_slice(), *wanted);
+    Ok(())
+}
+
+static FRONTS: [Front; 29] = [
+    // nothing; a part of the magic; another magic
+    (&[], None, b""),
+    (&[Event::Bytes(b"\xfeb")], None, b""),
+    (&[Event::Bytes(b"\xfec")], None, b" bad magic at 0"),
+    (
+        &[Event::Bytes(b"\xfebix"), FORMAT],
+        None,
+        b" bad magic at 0",
+    ),
+    // no format description; one that is refused, in the order of its faults
+    (&[MAGIC, Event::Gtid(1)], None, b" no format at 4"),
+    (&[MAGIC, Event::Flagged(38, b"")], None, b" no format at 4"),
+    (&[MAGIC, LARGE_QUERY], None, b" too large at 4: 67108865"),
+    (&[MAGIC, SHORT_HEAD], None, b" bad length at 4: 18"),
+    (
+        &[MAGIC, Event::Of(15, b"\x05\0")],
+        None,
+        b" bad event at 4: 15",
+    ),
+    (
+        &[MAGIC, Event::Format(5, 18, 1)],
+        None,
+        b" bad version at 4: 5",
+    ),
+    (
+        &[MAGIC, Event::Format(4, 18, 1)],
+        None,
+        b" bad event at 4: 15",
+    ),
+    (
+        &[MAGIC, Event::Format(4, 19, 1)],
+        None,
+        b" checksummed at 4: 1",
+    ),
+    // the base isn't known before the first event behind the format description
+    (&[MAGIC, FORMAT], None, b""),
+    (
+        &[MAGIC, FORMAT, Event::Of(3, b""), Event::Flagged(38, b"")],
+        None,
+        b"",
+    ),
+    (&[MAGIC, FORMAT, NO_BASE], Some(0), b""),
+    (&[MAGIC, FORMAT, Event::Of(35, FIRST_FIVE)], Some(1), b""),
+    (
+        &[MAGIC, FORMAT, Event::Flagged(35, FIRST_FIVE)],
+        Some(1),
+        b"",
+    ),
+    (
+        &[
+            MAGIC,
+            FORMAT,
+            Event::Flagged(38, b""),
+            Event::Of(35, FIRST_FIVE),
+        ],
+        Some(1),
+        b"",
+    ),
+    // a log may lack a base; a base that is refused, or comes late
+    (
+        &[MAGIC, FORMAT, Event::Gtid(1), DROP_T],
+        Some(0),
+        b"1@101 ddl drop table t.",
+    ),
+    (
+        &[MAGIC, FORMAT, Event::Of(35, b"\x01\0\0\0\0\0\0\0")],
+        Some(0),
+        b" bad event at 85: 35",
+    ),
+    (
+        &[MAGIC, FORMAT, NO_BASE, NO_BASE],
+        Some(0),
+        b" out of order at 112: 35",
+    ),
+    (
+        &[MAGIC, FORMAT, Event::Gtid(1), DROP_T, NO_BASE],
+        Some(0),
+        b"1@101 ddl drop table t. out of order at 178: 35",
+    ),
+    (
+        &[MAGIC, FORMAT, FORMAT],
+        Some(0),
+        b" out of order at 85: 15",
+    ),
+    (
+        &[MAGIC, FORMAT, Event::Of(34, b"")],
+        Some(0),
+        b" anonymous at 85",
+    ),
+    // GTIDs behind a base, one that stands in it, and one that stood before
+    (
+        &[
+            MAGIC,
+            FORMAT,
+            Event::Of(35, FIRST_FIVE),
+            Event::Gtid(6),
+            DROP_T,
+            Event::Gtid(5),
+        ],
+        Some(1),
+        b"6@102 ddl drop table t. repeated gtid at 245: 5",
+    ),
+    (
+        &[
+            MAGIC,
+            FORMAT,
+            Event::Of(35, FIRST_FIVE),
+            Event::Gtid(7),
+            DROP_T,
+            Event::Gtid(7),
+        ],
+        Some(1),
+        b"7@102 ddl drop table t. repeated gtid at 245: 7",
+    ),
+    // two statements; the fault of a head behind one of them, and one behind the other
+    (
+        &[
+            MAGIC,
+            FORMAT,
+            NO_BASE,
+            Event::Gtid(1),
+            DROP_T,
+            Event::Gtid(2),
+            DROP_S,
+        ],
+        Some(0),
+        b"1@102 ddl drop table t.2@104 ddl drop table s.",
+    ),
+    (
+        &[MAGIC, FORMAT, NO_BASE, Event::Gtid(1), DROP_T, SHORT_HEAD],
+        Some(0),
+        b"1@102 ddl drop table t. bad length at 205: 18",
+    ),
+    (
+        &[
+            MAGIC,
+            FORMAT,
+            NO_BASE,
+            Event::Gtid(2),
+            DROP_S,
+            Event::Gtid(1),
+            DROP_T,
+            Event::Of(9, b""),
+        ],
+        Some(0),
+        b"2@102 ddl drop table s.1@104 ddl drop table t. unsupported event at 298: 9",
+    ),
+];
+
+#[test]
+fn fronts_and_bases(rt: HostRuntime) -> Result<(), Fail> {
+    for case in &FRONTS {
+        check_front(&rt, rt.alloc(), case)?;
+    }
+    Ok(())
+}
+
+const FRONT: &[Event] = &[MAGIC, FORMAT, NO_BASE];
+
+/// Checks what stands behind the format description and an empty base.
+fn check(rt: &impl Abort, alloc: Global, case: &Case) -> Result<(), Fail> {
+    let (events, wanted) = case;
+    let mut log = Vec::new(alloc);
+    put_events(&mut log, 1, FRONT)?;
+    put_events(&mut log, 100, events)?;
+    let mut reader = reader(alloc)?;
+    reader.feed(log.as_slice())?;
+    let text = told(alloc, &mut reader)?;
+    assert_eq!(rt; text.as_slice(), *wanted);
+    Ok(())
+}
+
+/// Statements that stand alone, at byte 156, behind a GTID event.
+static STATEMENTS: [Case; 20] = [
+    (
+        &[
+            Event::Gtid(1),
+            Event::Query(b"vt_c", b"create table t (id int)"),
+        ],
+        b"1@101 ddl create table t (id int).",
+    ),
+    (
+        &[
+            Event::Gtid(1),
+            Event::Query(b"vt_c", b"Alter\ttable t add x int"),
+        ],
+        b"1@101 ddl Alter\ttable t add x int.",
+    ),
+    (
+        &[Event::Gtid(1), Event::Query(b"vt_c", b"truncate t")],
+        b"1@101 ddl truncate t.",
+    ),
+    (
+        &[
+            Event::Gtid(1),
+            Event::Query(b"vt_c", b"RENAME table t to s"),
+        ],
+        b"1@101 ddl RENAME table t to s.",
+    ),
+    (
+        &[
+            Event::Gtid(1),
+            Event::Query(b"vt_c", b" \t\r\n/* a */ /*b*/drop table t"),
+        ],
+        b"1@101 ddl  \t\r\n/* a */ /*b*/drop table t.",
+    ),
+    (
+        &[
+            Event::Gtid(1),
+            Event::Query(b"vt_d", b"create table t (id int)"),
+        ],
+        b"1@101 other.",
+    ),
+    (
+        &[
+            Event::Gtid(1),
+            Event::Query(b"", b"create table vt_c.t (id int)"),
+        ],
+        b"1@101 other.",
+    ),
+    (
+        &[
+            Event::Gtid(1),
+            Event::Query(b"vt_c", b"/*!40000 drop table t */"),
+        ],
+        b"1@101 other.",
+    ),
+    (
+        &[Event::Gtid(1), Event::Query(b"vt_c", b"/* drop table t")],
+        b"1@101 other.",
+    ),
+    (
+        &[Event::Gtid(1), Event::Query(b"vt_c", b"/*/ drop table t")],
+        b"1@101 other.",
+    ),
+    (
+        &[Event::Gtid(1), Event::Query(b"vt_c", b"dropped")],
+        b"1@101 other.",
+    ),
+    (
+        &[Event::Gtid(1), Event::Query(b"vt_c", b"drop_t")],
+        b"1@101 other.",
+    ),
+    (
+        &[Event::Gtid(1), Event::Query(b"vt_c", b"drop;")],
+        b"1@101 ddl drop;.",
+    ),
+    (
+        &[Event::Gtid(1), Event::Query(b"vt_c", b"grant all")],
+        b"1@101 other.",
+    ),
+    (
+        &[Event::Gtid(1), Event::Query(b"vt_c", b"")],
+        b"1@101 other.",
+    ),
+    (
+        &[Event::Gtid(1), Event::Query(b"vt_c", b"commit")],
+        b"1@101 other.",
+    ),
+    (
+        &[Event::Gtid(1), Event::Query(b"vt_c", b"savepoint s")],
+        b"1@101 other.",
+    ),
+    (
+        &[Event::Gtid(1), Event::Query(b"vt_c", b"xa start 'x'")],
+        b" unsupported statement at 156",
+    ),
+    (
+        &[Event::Gtid(1), Event::Query(b"", b"XA commit 'x'")],
+        b" unsupported statement at 156",
+    ),
+    (&[Event::Gtid(1), Event::Query(b"vt_c", b"begin")], b""),
+];
+
+#[test]
+fn statements(rt: HostRuntime) -> Result<(), Fail> {
+    for case in &STATEMENTS {
+        check(&rt, rt.alloc(), case)?;
+    }
+    Ok(())
+}
+
+/// What may stand where. A transaction's events begin at byte 198.
+static ORDERS: [Case; 41] = [
+    // the ends of a transaction, and what stands in one
+    (&[Event::Gtid(1), BEGIN, COMMIT], b"1@102 rows."),
+    (&[Event::Gtid(1), BEGIN, XID], b"1@102 rows."),
+    (
+        &[
+            Event::Gtid(1),
+            BEGIN,
+            Event::Of(16, b"\0\0\0\0\0\0\0\0more"),
+        ],
+        b"1@102 rows.",
+    ),
+    (
+        &[Event::Gtid(1), BEGIN, Event::Of(16, b"\0\0\0\0\0\0\0")],
+        b" bad event at 198: 16",
+    ),
+    (
+        &[
+            Event::Gtid(1),
+            BEGIN,
+            Event::Of(3, b""),
+            SAVEPOINT,
+            Event::Flagged(38, b""),
+            XID,
+        ],
+        b"1@105 rows.",
+    ),
+    (&[Event::Gtid(1), BEGIN, BEGIN], b" nested begin at 198"),
+    (
+        &[Event::Gtid(1), BEGIN, DROP_T],
+        b" unsupported statement at 198",
+    ),
+    (
+        &[
+            Event::Gtid(1),
+            BEGIN,
+            Event::Query(b"vt_c", b"xa start 'x'"),
+        ],
+        b" unsupported statement at 198",
+    ),
+    (
+        &[Event::Gtid(1), BEGIN, Event::Of(2, b"")],
+        b" bad event at 198: 2",
+    ),
+    (
+        &[Event::Gtid(1), BEGIN, Event::Gtid(2)],
+        b" out of order at 198: 33",
+    ),
+    (
+        &[Event::Gtid(1), BEGIN, NO_BASE],
+        b" out of order at 198: 35",
+    ),
+    (
+        &[Event::Gtid(1), BEGIN, FORMAT],
+        b" out of order at 198: 15",
+    ),
+    (
+        &[Event::Gtid(1), BEGIN, Event::Of(34, b"")],
+        b" anonymous at 198",
+    ),
+    (
+        &[Event::Gtid(1), BEGIN, Event::Of(38, b"")],
+        b" unsupported event at 198: 38",
+    ),
+    // rows, once and twice
+    (
+        &[Event::Gtid(1), BEGIN, MAP, INSERTS, XID],
+        b"1@104 rows t ->[5][a] t ->[6][NULL].",
+    ),
+    (
+        &[Event::Gtid(1), BEGIN, MAP, SAVEPOINT, INSERTS, COMMIT],
+        b"1@105 rows t ->[5][a] t ->[6][NULL].",
+    ),
+    (
+        &[Event::Gtid(1), BEGIN, MAP, INSERTS, INSERTS, COMMIT],
+        b"1@105 rows t ->[5][a] t ->[6][NULL] t ->[5][a] t ->[6][NULL].",
+    ),
+    (&[Event::Gtid(1), BEGIN, MAP, XID], b"1@103 rows."),
+    // what isn't whole at the end
+    (&[], b""),
+    (&[Event::Gtid(1)], b""),
+    (&[Event::Gtid(1), BEGIN, MAP, INSERTS], b""),
+    (
+        &[
+            Event::Gtid(1),
+            BEGIN,
+            MAP,
+            INSERTS,
+            XID,
+            Event::Gtid(2),
+            BEGIN,
+            MAP,
+            Event::Bytes(b"\0\0\0\0\x1e\0\0\0\0\x2b"),
+        ],
+        b"1@104 rows t ->[5][a] t ->[6][NULL].",
+    ),
+    // the places between entries, and behind a GTID event
+    (&[DROP_T], b" out of order at 112: 2"),
+    (&[XID], b" out of order at 112: 16"),
+    (&[MAP], b" out of order at 112: 19"),
+    (&[INSERTS], b" out of order at 112: 30"),
+    (&[Event::Flagged(34, b"")], b" anonymous at 112"),
+    (&[Event::Gtid(0)], b" bad gtid at 112"),
+    (
+        &[Event::Gtid(9_223_372_036_854_775_807)],
+        b" bad gtid at 112",
+    ),
+    (&[Event::Of(33, b"\0")], b" bad event at 112: 33"),
+    (&[Event::Gtid(1), XID], b" out of order at 156: 16"),
+    (&[Event::Gtid(1), MAP], b" out of order at 156: 19"),
+    (&[Event::Gtid(1), INSERTS], b" out of order at 156: 30"),
+    (
+        &[Event::Gtid(1), Event::Gtid(2)],
+        b" out of order at 156: 33",
+    ),
+    (
+        &[Event::Gtid(1), Event::Of(2, b"")],
+        b" bad event at 156: 2",
+    ),
+    (
+        &[Event::Gtid(1), Event::Of(4, b""), DROP_T],
+        b"1@102 ddl drop table t.",
+    ),
+    // the sum of an entry's events; what is passed over counts alone
+    (
+        &[
+            Event::Gtid(1),
+            Event::Bytes(b"\0\0\0\0\x02\0\0\0\0\xd4\xff\xff\x03\0\0\0\0\0\0"),
+        ],
+        b"",
+    ),
+    (
+        &[
+            Event::Gtid(1),
+            Event::Bytes(b"\0\0\0\0\x02\0\0\0\0\xd5\xff\xff\x03\0\0\0\0\0\0"),
+        ],
+        b" too large at 156: 67108865",
+    ),
+    (
+        &[
+            Event::Gtid(1),
+            Event::Bytes(b"\0\0\0\0\x03\0\0\0\0\0\0\0\x04\0\0\0\0\0\0"),
+        ],
+        b"",
+    ),
+    (
+        &[Event::Gtid(1), LARGE_STOP],
+        b" too large at 156: 67108865",
+    ),
+    (&[LARGE_QUERY], b" too large at 112: 67108865"),
+];
+
+#[test]
+fn orders(rt: HostRuntime) -> Result<(), Fail> {
+    for case in &ORDERS {
+        check(&rt, rt.alloc(), case)?;
+    }
+    Ok(())
+}
+
+/// Table maps, which stand at byte 198, and rows.
+static ROWS: [Case; 18] = [
+    // table maps
+    (
+        &[Event::Gtid(1), BEGIN, Event::Of(19, b"")],
+        b" bad event at 198: 19",
+    ),
+    (
+        &[
+            Event::Gtid(1),
+            BEGIN,
+            Event::Of(19, b"\x07\0\0\0\0\0\x01\0\x04vt_c\0\x01u\0\x01\x03\0\0"),
+        ],
+        b" unknown table at 198: u",
+    ),
+    (
+        &[
+            Event::Gtid(1),
+            BEGIN,
+            Event::Of(19, b"\x07\0\0\0\0\0\x01\0\x04vt_c\0\x01t\0\x01\x03\0\0"),
+        ],
+        b" disagrees at 198: t",
+    ),
+    // rows of table 7
+    (
+        &[Event::Gtid(1), BEGIN, INSERTS],
+        b" unknown table id at 198: 7",
+    ),
+    (
+        &[Event::Gtid(1), BEGIN, MAP, Event::Of(30, b"")],
+        b" bad event at 241: 30",
+    ),
+    (
+        &[
+            Event::Gtid(1),
+            BEGIN,
+            MAP,
+            Event::Of(31, b"\x07\0\0\0\0\0\x01\0\x02\0\x02\x03"),
+        ],
+        b" bad event at 241: 31",
+    ),
+    (
+        &[
+            Event::Gtid(1),
+            BEGIN,
+            MAP,
+            Event::Of(30, b"\x08\0\0\0\0\0\x01\0\x02\0\x02\x03"),
+        ],
+        b" unknown table id at 241: 8",
+    ),
+    (
+        &[
+            Event::Gtid(1),
+            BEGIN,
+            MAP,
+            Event::Of(30, b"\x07\0\0\0\0\0\x01\0\x02\0\x02\x01"),
+        ],
+        b" not full at 241: t",
+    ),
+    (
+        &[
+            Event::Gtid(1),
+            BEGIN,
+            MAP,
+            Event::Of(30, b"\x07\0\0\0\0\0\x01\0\x02\0\x02\x03\0"),
+        ],
+        b" bad row at 241: t",
+    ),
+    (
+        &[
+            Event::Gtid(1),
+            BEGIN,
+            MAP,
+            INSERTS,
+            Event::Of(32, b"\x07\0\0\0\0\0\x01\0\x02\0\x02\x03\0"),
+        ],
+        b" bad row at 284: t",
+    ),
+    (
+        &[
+            Event::Gtid(1),
+            BEGIN,
+            MAP,
+            Event::Of(
+                31,
+                b"\x07\0\0\0\0\0\x01\0\x02\0\x02\x03\x03\x02\x05\0\0\0\x02\x06\0\0\0",
+            ),
+            XID,
+        ],
+        b"1@104 rows t [5][NULL]>[6][NULL].",
+    ),
+    (
+        &[
+            Event::Gtid(1),
+            BEGIN,
+            MAP,
+            Event::Of(32, b"\x07\0\0\0\0\0\x01\0\x02\0\x02\x03\0\x05\0\0\0\x01a"),
+            XID,
+        ],
+        b"1@104 rows t [5][a]>-.",
+    ),
+    // a table that the schema text skips
+    (
+        &[
+            Event::Gtid(1),
+            BEGIN,
+            Event::Of(19, b"\x07\0\0\0\0\0\x01\0\x04vt_c\0\x01s\0\x01\x03\0\0"),
+            INSERTS,
+            XID,
+        ],
+        b"1@104 rows.",
+    ),
+    // table maps are forgotten at the next entry, which begins at byte 268
+    (
+        &[
+            Event::Gtid(1),
+            BEGIN,
+            MAP,
+            XID,
+            Event::Gtid(2),
+            BEGIN,
+            INSERTS,
+        ],
+        b"1@103 rows. unknown table id at 354: 7",
+    ),
+    (
+        &[
+            Event::Gtid(1),
+            BEGIN,
+            MAP,
+            INSERTS,
+            XID,
+            Event::Gtid(2),
+            BEGIN,
+            MAP,
+            INSERTS,
+            XID,
+        ],
+        b"1@104 rows t ->[5][a] t ->[6][NULL].2@109 rows t ->[5][a] t ->[6][NULL].",
+    ),
+    // journals
+    (
+        &[Event::Gtid(1), BEGIN, JOURNAL, Event::Of(30, OURS)],
+        b" not built at 259",
+    ),
+    (
+        &[Event::Gtid(1), BEGIN, JOURNAL, Event::Of(30, OTHERS), XID],
+        b"1@104 rows.",
+    ),
+    (
+        &[Event::Gtid(1), BEGIN, JOURNAL, Event::Of(32, OURS), XID],
+        b"1@104 rows.",
+    ),
+];
+
+#[test]
+fn rows(rt: HostRuntime) -> Result<(), Fail> {
+    for case in &ROWS {
+        check(&rt, rt.alloc(), case)?;
+    }
+    Ok(())
+}
+
+/// A base of the 1,024 odd numbers up to 2,047, each an interval of its own.
+fn put_odds(log: &mut Vec<u8>) -> Result<(), AllocError> {
+    put_head(log, 3, 35, 0, 16_416)?;
+    log.extend_from_slice(
+        b"\x01\0\0\0\0\0\0\0\0\0\0\0\0\0\0\0\0\0\0\0\0\0\0\x01\0\x04\0\0\0\0\0\0",
+    )?;
+    for pair in 0u64..1024 {
+        log.extend_from_slice(&(2 * pair + 1).to_le_bytes())?;
+        log.extend_from_slice(&(2 * pair + 2).to_le_bytes())?;
+    }
+    Ok(())
+}
+
+/// A number that joins two intervals, and two that don't.
+const SCATTERED: &[Event] = &[
+    Event::Gtid(2),
+    DROP_T,
+    Event::Gtid(5000),
+    DROP_T,
+    Event::Gtid(7000),
+];
+
+#[test]
+fn too_many_intervals(rt: HostRuntime) -> Result<(), Fail> {
+    let mut log = Vec::new(rt.alloc());
+    put_events(&mut log, 1, &[MAGIC, FORMAT])?;
+    put_odds(&mut log)?;
+    put_events(&mut log, 100, SCATTERED)?;
+    let mut reader = reader(rt.alloc())?;
+    reader.feed(log.as_slice())?;
+    let text = told(rt.alloc(), &mut reader)?;
+    let wanted = b"2@101 ddl drop table t.5000@103 ddl drop table t. too many intervals at 16706";
+    assert_eq!(rt; text.as_slice(), wanted.as_slice());
+    Ok(())
+}
+
+/// An event of 19 bytes.
+const STOP: &[u8] = b"\0\0\0\0\x03\0\0\0\0\x13\0\0\0\0\0\0\0\0\0";
+
+/// It ends at byte 2^62, and one byte behind it.
+#[test]
+fn ends_by_the_last_place(rt: HostRuntime) {
+    let progress = Progress::new(rt.alloc());
+    assert!(rt; front_event(STOP, 4_611_686_018_427_387_885).is_some());
+    assert_eq!(rt; progress.head_fault(STOP, 4_611_686_018_427_387_885), None);
+    assert!(rt; front_event(STOP, 4_611_686_018_427_387_886).is_none());
+    let fault = progress.head_fault(STOP, 4_611_686_018_427_387_886);
+    assert_eq!(rt; fault, Some(Why::TooLarge { bytes: 19 }));
+}
+
+const TWO_DROPS: &[Event] = &[
+    MAGIC,
+    FORMAT,
+    NO_BASE,
+    Event::Gtid(1),
+    DROP_T,
+    Event::Gtid(2),
+    DROP_S,
+];
+
+/// Whether the next entry is the one so numbered, at this time and between these places.
+fn gives(reader: &mut Reader, number: u64, when: u32, from: u64, to: u64) -> bool {
+    let Ok(Took::Entry { entry, at, end }) = reader.next_entry() else {
         return false;
     };
-    at == place && is_drop(&entry, number, time, name)
+    entry.gtid.number == number && entry.time == when && at == from && end == to
 }
 
 /// Feeds the next byte of the two statements, and whether the answers behind it are right.
@@ -85,16 +729,17 @@ fn goes_on(reader: &mut Reader, byte: u8, fed: usize) -> bool {
         return false;
     }
     let given = match fed {
-        205 => gives(reader, 1, 101, 112, b't'),
-        298 => gives(reader, 2, 103, 205, b's'),
+        205 => gives(reader, 1, 102, 112, 205),
+        298 => gives(reader, 2, 104, 205, 298),
         _ => true,
     };
     given && matches!(reader.next_entry(), Ok(Took::More)) && reader.held() < 81
 }
 
 #[test]
-fn gives_entries_byte_by_byte(rt: HostRuntime) -> Result<(), Fail> {
-    let log = log_of(rt.alloc(), TWO_DROPS)?;
+fn entries_byte_by_byte(rt: HostRuntime) -> Result<(), Fail> {
+    let mut log = Vec::new(rt.alloc());
+    put_events(&mut log, 98, TWO_DROPS)?;
     let mut reader = reader(rt.alloc())?;
     let mut fed = 0usize;
     for byte in log.as_slice() {
@@ -107,136 +752,17 @@ fn gives_entries_byte_by_byte(rt: HostRuntime) -> Result<(), Fail> {
     Ok(())
 }
 
-const QUERY_ALONE: &[(u8, &[u8])] = &[BASE, FIRST, DROP_T, (2, b"")];
-
-fn is_out_of_order(reader: &mut Reader) -> bool {
-    matches!(
-        reader.next_entry(),
-        Err(LogRefusal::BadLog {
-            offset: 205,
-            why: Why::BadOrder { kind: 2 },
-        })
-    )
-}
-
+/// A fault stays, whatever bytes come.
 #[test]
 fn tells_a_fault_for_good(rt: HostRuntime) -> Result<(), Fail> {
-    let log = log_of(rt.alloc(), QUERY_ALONE)?;
+    let mut log = Vec::new(rt.alloc());
+    put_events(&mut log, 1, &[MAGIC, FORMAT, NO_BASE, XID])?;
     let mut reader = reader(rt.alloc())?;
     reader.feed(log.as_slice())?;
-    assert!(rt; gives(&mut reader, 1, 101, 112, b't'));
-    assert!(rt; is_out_of_order(&mut reader));
-    reader.feed(&[0; 40])?;
-    assert!(rt; is_out_of_order(&mut reader));
-    Ok(())
-}
-
-fn kind_of(entry: &Entry) -> &'static str {
-    match &entry.work {
-        Work::Ddl(_) => "ddl",
-        Work::Other => "other",
-        Work::Rows(changes) => match changes.as_slice().len() {
-            0 => "no change",
-            2 => "two changes",
-            _ => "changes",
-        },
-        Work::Journal(_) => "journal",
+    for _ in 0..2 {
+        let text = told(rt.alloc(), &mut reader)?;
+        assert_eq!(rt; text.as_slice(), b" out of order at 112: 16".as_slice());
+        reader.feed(&[0; 40])?;
     }
-}
-
-fn name_of(why: &Why) -> &'static str {
-    match why {
-        Why::UnsupportedStatement => "unsupported",
-        Why::NotBuilt => "not built",
-        Why::BadMagic => "no log",
-        Why::UnknownTableId { id: 7 } => "unknown id 7",
-        _ => "another fault",
-    }
-}
-
-/// What the first entry of a log comes to.
-fn outcome(alloc: Global, log: &[u8]) -> Result<&'static str, Fail> {
-    let mut reader = reader(alloc)?;
-    reader.feed(log)?;
-    match reader.next_entry() {
-        Ok(Took::Entry { entry, .. }) => Ok(kind_of(&entry)),
-        Ok(Took::More) => Ok("open"),
-        Err(LogRefusal::BadLog { why, .. }) => Ok(name_of(&why)),
-        Err(LogRefusal::Memory) => Err(Fail::new("no memory")),
-    }
-}
-
-const BEGIN: (u8, &[u8]) = (2, b"\0\0\0\0\0\0\0\0\x04\0\0\0\0vt_c\0BEGIN");
-
-const COMMIT: (u8, &[u8]) = (2, b"\0\0\0\0\0\0\0\0\x04\0\0\0\0vt_c\0commit");
-
-const SAVEPOINT: (u8, &[u8]) = (2, b"\0\0\0\0\0\0\0\0\x04\0\0\0\0vt_c\0savepoint s");
-
-const ALTER_OTHERS: (u8, &[u8]) = (2, b"\0\0\0\0\0\0\0\0\x04\0\0\0\0vt_d\0alter table t");
-
-const XA: (u8, &[u8]) = (2, b"\0\0\0\0\0\0\0\0\x04\0\0\0\0vt_c\0xa start 'x'");
-
-const XID: (u8, &[u8]) = (16, &[0; 8]);
-
-/// Table 7 is `vt_c.t` (id int, v varchar(20)).
-const MAP: (u8, &[u8]) = (
-    19,
-    b"\x07\0\0\0\0\0\x01\0\x04vt_c\0\x01t\0\x02\x03\x0f\x02\x14\0\x02",
-);
-
-/// Inserts into table 7: (5, 'a') and (6, NULL).
-const INSERTS: (u8, &[u8]) = (
-    30,
-    b"\x07\0\0\0\0\0\x01\0\x02\0\x02\x03\0\x05\0\0\0\x01a\x02\x06\0\0\0",
-);
-
-/// Table 9 is `_vt.resharding_journal` (id bigint, db_name varbinary(255), val blob).
-const JOURNAL: (u8, &[u8]) = (
-    19,
-    b"\x09\0\0\0\0\0\x01\0\x03_vt\0\x12resharding_journal\0\x03\x08\x0f\xfc\x03\xff\0\x02\x04",
-);
-
-/// An insert into table 9 of (7, 'vt_c', ''), and one of (7, 'vt_d', '').
-const OURS: (u8, &[u8]) = (
-    30,
-    b"\x09\0\0\0\0\0\x01\0\x02\0\x03\x07\0\x07\0\0\0\0\0\0\0\x04vt_c\0\0",
-);
-
-const OTHERS: (u8, &[u8]) = (
-    30,
-    b"\x09\0\0\0\0\0\x01\0\x02\0\x03\x07\0\x07\0\0\0\0\0\0\0\x04vt_d\0\0",
-);
-
-/// Logs behind the format description, and what the first entry of each comes to.
-const CASES: &[(&[(u8, &[u8])], &str)] = &[
-    (&[FIRST, ALTER_OTHERS], "other"),
-    (&[FIRST, XA], "unsupported"),
-    (&[FIRST, BEGIN, XID], "no change"),
-    (
-        &[FIRST, BEGIN, MAP, SAVEPOINT, INSERTS, COMMIT],
-        "two changes",
-    ),
-    (&[FIRST, BEGIN, INSERTS], "unknown id 7"),
-    (&[FIRST, BEGIN, JOURNAL, OURS], "not built"),
-    (&[FIRST, BEGIN, JOURNAL, OTHERS, XID], "no change"),
-];
-
-/// Whether the first entry of a log of these events comes to this.
-fn comes_to(alloc: Global, events: &[(u8, &[u8])], wanted: &str) -> Result<bool, Fail> {
-    let log = log_of(alloc, events)?;
-    Ok(outcome(alloc, log.as_slice())? == wanted)
-}
-
-#[test]
-fn tells_logs_apart(rt: HostRuntime) -> Result<(), Fail> {
-    for (events, wanted) in CASES {
-        assert!(rt; comes_to(rt.alloc(), events, wanted)?);
-    }
-    Ok(())
-}
-
-#[test]
-fn refuses_another_magic(rt: HostRuntime) -> Result<(), Fail> {
-    assert_eq!(rt; outcome(rt.alloc(), b"\xfebix")?, "no log");
     Ok(())
 }
