@@ -7,10 +7,13 @@
 
 mod body;
 mod event;
+#[cfg(test)]
+mod events_for_tests;
 mod fault;
 mod front;
 mod kind;
 mod laws;
+mod magic;
 mod out;
 mod progress;
 mod query;
@@ -19,11 +22,9 @@ mod refusal;
 mod row;
 mod standing;
 #[cfg(test)]
-mod test_events;
-#[cfg(test)]
-mod test_texts;
-#[cfg(test)]
 mod tests;
+#[cfg(test)]
+mod texts_for_tests;
 mod took;
 mod walk;
 mod window;

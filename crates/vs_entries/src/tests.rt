@@ -1,11 +1,11 @@
-use crate::front::front_event;
-use crate::progress::Progress;
-use crate::test_events::{
+use crate::events_for_tests::{
     BEGIN, COMMIT, DROP_S, DROP_T, Event, FIRST_FIVE, FORMAT, INSERTS, JOURNAL, LARGE_QUERY,
     LARGE_STOP, MAGIC, MAP, NO_BASE, OTHERS, OURS, SAVEPOINT, SHORT_HEAD, XID, put_events,
     put_head,
 };
-use crate::test_texts::told;
+use crate::front::front_event;
+use crate::progress::Progress;
+use crate::texts_for_tests::told;
 use crate::{Reader, Took, law_no_journals, law_part};
 use std::alloc::{AllocError, Global};
 use std::process::Abort;
