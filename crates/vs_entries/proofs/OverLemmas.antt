@@ -44,11 +44,8 @@ state_early base base2 known known2 standing maps more changes others b k h =
     ∙ ap (λ z. record { base = base2; entries = []; known = known2; place = z }) (place_early standing maps more changes others h)
 
 -- a walk that is put back where it began
-pub put_back : Walk → Walk → Walk
-put_back first now = record { at = first.at; begun = first.begun; given = now.given; progress = record now.progress { standing = first.progress.standing } }
-
-pub front_back : (rules : Rules Tables) (bytes : List ℕ) (first now : Walk) → is_early first.progress.standing ≡ true → first.given ≡ 0 → IsEarly rules bytes first now → IsBack first (put_back first now)
-unfolding put_back
+pub front_back : (rules : Rules Tables) (bytes : List ℕ) (first now : Walk) → is_early first.progress.standing ≡ true → first.given ≡ 0 → IsEarly rules bytes first now →
+    IsBack first (record { at = first.at; begun = first.begun; given = now.given; progress = record now.progress { standing = first.progress.standing } })
 front_back rules bytes first now e g f = record {
   at = refl;
   begun = refl;

@@ -9,4 +9,4 @@ pub read_early-requires-clause-early : goal.read_early-requires-clause-early
 read_early-requires-clause-early c = magic_starts c.laws.ensures _ _ _ c.requires.stands c.requires.early c.requires.given c.requires.begun c.in-Whole.ensures
 
 pub returns-in-Err-clause-err : goal.returns-in-Err-clause-err
-returns-in-Err-clause-err c = front_back _ _ _ _ c.requires.early c.requires.given c.in-Err.ensures.err
+returns-in-Err-clause-err c = front_back _ _ c.args.self.now c.read_early.new.self c.requires.early c.requires.given c.in-Err.ensures.err
