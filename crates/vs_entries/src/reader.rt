@@ -126,17 +126,23 @@ impl Reader {
             &self.schema,
             &mut out,
         ) {
-            Ok(Next::Gave) => match out.entry {
-                Some(entry) => Ok(self.walk.took(entry)),
-                None => unreachable!(),
-            },
-            Ok(Next::Ended) => match out.why {
-                None => Ok(Took::More),
-                Some(why) => {
-                    let at = self.walk.at as u64;
-                    Err(keep(self.alloc, at, why, &mut self.fault, &mut self.spent))
+            Ok(Next::Gave) => {
+                let Out { entry, .. } = out;
+                match entry {
+                    Some(entry) => Ok(self.walk.took(entry)),
+                    None => unreachable!(),
                 }
-            },
+            }
+            Ok(Next::Ended) => {
+                let Out { why, .. } = out;
+                match why {
+                    None => Ok(Took::More),
+                    Some(why) => {
+                        let at = self.walk.at as u64;
+                        Err(keep(self.alloc, at, why, &mut self.fault, &mut self.spent))
+                    }
+                }
+            }
             Err(_) => {
                 self.spent = true;
                 Err(LogRefusal::Memory)

@@ -42,7 +42,7 @@ invariant_of-self-in-Some-why c =
     let reads = rw c.in-Ok-Ended.field-0-is at n.reads in
     record {
       over = over_read _ _ _ c.self.inside.window c.self.inside.walk _ c.self.inside.refused c.as_bytes.ensures c.self.invariant.over n.stands n.early n.given n.stuck n.later;
-      fault = fault_found _ _ _ _ c.self.inside.walk c.read_entry.new.self c.read_entry.new.out.why c.in-Some.why c.as_bytes.ensures reads c.in-Some.is;
+      fault = rw c.keep.ensures.kept (fault_found _ _ _ _ c.self.inside.walk c.read_entry.new.self c.read_entry.new.out.why c.in-Some-why.why c.as_bytes.ensures reads c.in-Some-why.is);
     }
 
 pub invariant_of-self-in-None-why : goal.invariant_of-self-in-None-why
