@@ -126,13 +126,7 @@ impl Reader {
             &self.schema,
             &mut out,
         ) {
-            Ok(Next::Gave) => {
-                let Out { entry, .. } = out;
-                match entry {
-                    Some(entry) => Ok(self.walk.took(entry)),
-                    None => unreachable!(),
-                }
-            }
+            Ok(Next::Gave) => Ok(self.walk.took(out.into_entry())),
             Ok(Next::Ended) => {
                 let Out { why, .. } = out;
                 match why {

@@ -28,8 +28,8 @@ read_entry-requires-clause-stands c =
 pub invariant_of-self : goal.invariant_of-self
 invariant_of-self c = c.self.invariant
 
-pub invariant_of-self-in-Some-entry : goal.invariant_of-self-in-Some-entry
-invariant_of-self-in-Some-entry c =
+pub invariant_of-self-in-Ok-Gave : goal.invariant_of-self-in-Ok-Gave
+invariant_of-self-in-Ok-Gave c =
     let n = c.in-Ok-Gave.ensures in
     record {
       over = over_read _ _ _ c.self.inside.window c.self.inside.walk _ c.self.inside.refused c.as_bytes.ensures c.self.invariant.over n.stands n.early n.given n.stuck n.later;
@@ -45,8 +45,8 @@ invariant_of-self-in-Some-why c =
       fault = rw c.keep.ensures.kept (fault_found _ _ _ _ c.self.inside.walk c.read_entry.new.self c.read_entry.new.out.why c.in-Some-why.why c.as_bytes.ensures reads c.in-Some-why.is);
     }
 
-pub invariant_of-self-in-None-why : goal.invariant_of-self-in-None-why
-invariant_of-self-in-None-why c =
+pub invariant_of-self-in-None : goal.invariant_of-self-in-None
+invariant_of-self-in-None c =
     let n = c.in-Ok-Ended.ensures in
     record {
       over = over_read _ _ _ c.self.inside.window c.self.inside.walk _ c.self.inside.refused c.as_bytes.ensures c.self.invariant.over n.stands n.early n.given n.stuck n.later;
