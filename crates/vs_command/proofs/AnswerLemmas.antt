@@ -15,8 +15,8 @@ use Rattle.vs_outside.specs.Told.{Writes}
 use Rattle.vs_outside.proofs.ToldLemmas.{Writes-none, Writes-weaken}
 use Rattle.vs_command.specs.declared.fetched.Fetched.{Fetched}
 use Rattle.vs_model.specs.Logs.{Cluster, LogsAreDistinct, log_of, after, due, stop, IsPositionAfter}
-use Rattle.vs_model.specs.Vectors.{Place, place_of}
-use Rattle.vs_model.specs.Vectors.Place.{Streaming}
+use Rattle.vs_gtid.specs.Vectors.{Place, place_of}
+use Rattle.vs_gtid.specs.Vectors.Place.{Streaming}
 use Rattle.vs_model.specs.Frames.{Frame, last_vector}
 use Rattle.vs_model.specs.Reached.{IsSettled}
 use Rattle.vs_model.specs.Requests.{First, OneShard}

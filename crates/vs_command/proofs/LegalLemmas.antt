@@ -17,8 +17,8 @@ use Rattle.vs_entries.specs.Rules.{IsNoJournal}
 use Rattle.vs_command.specs.Built.{AreBuilt, IsBuilt}
 use Rattle.vs_gtid.proofs.JoinLemmas.{has-added}
 use Rattle.vs_model.specs.Logs.{Cluster, LogsAreDistinct, log_of, after, due, stop, own_of, journal_of, up_to_own, first_own, IsPositionAfter, is_gtid_of}
-use Rattle.vs_model.specs.Vectors.{Vector, Place, place_of, moved}
-use Rattle.vs_model.specs.Vectors.Place.{Streaming}
+use Rattle.vs_gtid.specs.Vectors.{Vector, Place, place_of, moved}
+use Rattle.vs_gtid.specs.Vectors.Place.{Streaming}
 use Rattle.vs_model.specs.Frames.{Frame, last_vector}
 use Rattle.vs_model.specs.Frames.Frame.{AllCopied}
 use Rattle.vs_model.specs.Copy.{picked}

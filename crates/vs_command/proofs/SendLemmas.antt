@@ -12,7 +12,7 @@ use Rattle.vs_gtid.specs.Joins.{added}
 use Rattle.vs_outside.specs.Told.{IsPrefixOf, Writes}
 use Rattle.vs_outside.proofs.ToldLemmas.{Writes-none, Writes-then, Writes-weaken, IsPrefixOf-refl, IsPrefixOf-behind}
 use Rattle.vs_model.specs.Frames.{Frame}
-use Rattle.vs_model.specs.Vectors.{Vector}
+use Rattle.vs_gtid.specs.Vectors.{Vector}
 use Rattle.vs_command.specs.declared.sending.SendEnd.{SendEnd}
 use Rattle.vs_command.specs.declared.sending.SendEnd.TheVariants.{Memory, LinkFault, PositionTooLarge, NotBuilt}
 use Rattle.vs_gtid.specs.declared.Work.{Work}

@@ -9,8 +9,8 @@ use Rattle.vs_gtid.specs.Positions.{Position, has, IsCanonical}
 use Rattle.vs_gtid.specs.Joins.{added}
 use Rattle.vs_outside.specs.Told.{IsPrefixOf}
 use Rattle.vs_log.specs.Laws.{FitAlong}
-use Rattle.vs_model.specs.Vectors.{Vector}
-use Rattle.vs_model.specs.Vectors.Place.{Streaming}
+use Rattle.vs_gtid.specs.Vectors.{Vector}
+use Rattle.vs_gtid.specs.Vectors.Place.{Streaming}
 use Rattle.vs_model.specs.Frames.{Frame}
 use Rattle.vs_model.specs.Frames.Frame.{Tx}
 use Rattle.vs_command.specs.declared.sending.SendEnd.{SendEnd}

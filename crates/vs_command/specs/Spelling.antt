@@ -19,8 +19,8 @@ use Rattle.vs_proto.specs.declared.row.Row.{Row}
 use Rattle.vs_proto.specs.declared.vgtid.ShardGtid.{ShardGtid}
 use Rattle.vs_proto.specs.declared.vgtid.TableKey.{TableKey}
 use Rattle.vs_proto.specs.declared.vgtid.VGtid.{VGtid}
-use Rattle.vs_model.specs.Vectors.{Place, Vector}
-use Rattle.vs_model.specs.Vectors.Place.{Fresh, Copying, Streaming}
+use Rattle.vs_gtid.specs.Vectors.{Place, Vector}
+use Rattle.vs_gtid.specs.Vectors.Place.{Fresh, Copying, Streaming}
 use Rattle.vs_model.specs.Frames.{Frame}
 use Rattle.vs_model.specs.Frames.Frame.{Tx, Switch, Halt, Chunk, CopyDone, AllCopied, Beat}
 pub use Rattle.vs_base.specs.Rows.{cell_length, cell_bytes}

@@ -22,7 +22,7 @@ use Rattle.vs_log.specs.Table.{Rules}
 use Rattle.vs_entries.specs.Rules.{rules_of}
 use Rattle.vs_entries.specs.Reading.{no_schema}
 use Rattle.vs_model.specs.Logs.{Cluster, log_of, after, due, IsPositionAfter}
-use Rattle.vs_model.specs.Vectors.{Vector}
+use Rattle.vs_gtid.specs.Vectors.{Vector}
 use Rattle.vs_model.specs.Frames.{Frame, last_vector}
 use Rattle.vs_model.specs.Copy.{Filter}
 use Rattle.vs_model.specs.Legal.{Legal}

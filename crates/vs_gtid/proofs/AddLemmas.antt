@@ -28,7 +28,7 @@ pub not_after : (i j : Interval) → i.first ≤ i.last → j.first ≤ j.last �
 not_after i j h g a = false_from_ne_true _ (λ b. one_before i j h g (stands_before-is i j a) (stands_before-is j i b))
 
 -- what stands before an interval of a canonical list that stands before k stands before k
-all_before : (p : Position) (i k : Interval) (m : ℕ) (d : Interval) → IsCanonical (i ∷ p) → m < length p → stands_before (get_or p m d) k ≡ true → stands_before i k ≡ true
+pub all_before : (p : Position) (i k : Interval) (m : ℕ) (d : Interval) → IsCanonical (i ∷ p) → m < length p → stands_before (get_or p m d) k ≡ true → stands_before i k ≡ true
 all_before [] i k m d c l h = absurd (omega arith)
 all_before (j ∷ rest) i k zero d c l h =
     stands_before-from i k (Before-trans i.uuid j.uuid k.uuid i.last j.first j.last k.first c.2.0.ascends c.1 (stands_before-is j k h))
@@ -72,7 +72,7 @@ pub joined_meets : (i k : Interval) (rest : Position) → stands_before k i ≡ 
 unfolding joined
 joined_meets i k rest a b = rw (a, b) refl
 
-before_first : (k : Interval) (rest : Position) (d : Interval) → (0 < length rest → stands_before k (get_or rest 0 d) ≡ true) → StandsBeforeFirst k rest
+pub before_first : (k : Interval) (rest : Position) (d : Interval) → (0 < length rest → stands_before k (get_or rest 0 d) ≡ true) → StandsBeforeFirst k rest
 before_first k [] d h = tt
 before_first k (l ∷ rest) d h = stands_before-is k l (h (omega arith))
 

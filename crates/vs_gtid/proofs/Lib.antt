@@ -2,13 +2,16 @@ pub mod AddLemmas
 pub mod BlockLemmas
 pub mod EqualSets
 pub mod JoinLemmas
+pub mod KeptLemmas
 pub mod LawfulSpans
 pub mod MergeLemmas
 pub mod MissingLemmas
 pub mod Order
 pub mod PrintedLemmas
 pub mod ReadingLemmas
+pub mod SameJournals
 pub mod ScanLemmas
+pub mod SearchLemmas
 pub mod SetTextComplete
 pub mod SetTextItems
 pub mod SetTextOver

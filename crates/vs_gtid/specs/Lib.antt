@@ -7,3 +7,6 @@ pub mod Readings
 pub mod SetTexts
 pub mod Text
 pub mod Logs
+pub mod Vectors
+pub mod Journals
+pub mod Kept

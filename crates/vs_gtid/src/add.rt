@@ -45,7 +45,7 @@ pub(crate) fn add_to(intervals: &mut Vec<Interval>, gtid: Gtid) -> Result<(), Gt
 }
 
 /// How many intervals stand before this one. The search begins at the end, where most GTIDs come.
-fn place_of(intervals: &[Interval], single: &Interval) -> usize
+pub(crate) fn place_of(intervals: &[Interval], single: &Interval) -> usize
     requires { IsCanonical intervals.now }
     ensures place { result ≡ place single.now intervals.now }
     ensures within { result ≤ length intervals.now }

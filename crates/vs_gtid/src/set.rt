@@ -1,6 +1,7 @@
 ghost use Rattle.std.specs.Prelude.{◌≡◌, ◌≤◌, ◌<◌, ◌⊎◌, ◌↔◌, [], length, IfErr, IfOk, OnErr, OnOk};
 
 use crate::add::add_to;
+use crate::search::holds;
 use crate::{GtidRefusal, Interval, OutOfMemory};
 use std::alloc::Global;
 use std::marker::Model;
@@ -40,14 +41,11 @@ impl GtidSet {
     }
 
     /// Whether the GTID is in the set.
-    #[tactic(auto, unfolding(crate::specs::Positions::has))]
     pub fn contains(&self, gtid: &Gtid) -> bool
         ensures has { result ≡ has self.now gtid.now }
         ensures position { IsPosition self.now }
     {
-        self.intervals
-            .iter()
-            .any(|interval| interval.contains(gtid))
+        holds(self.intervals.as_slice(), gtid)
     }
 
     /// How many intervals the set has.

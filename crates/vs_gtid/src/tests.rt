@@ -1,4 +1,4 @@
-use crate::{GtidRefusal, GtidSet};
+use crate::{GtidRefusal, GtidSet, KeptPosition};
 use std::alloc::Global;
 use std::process::Abort;
 use std::test::Fail;
@@ -39,6 +39,41 @@ fn a_gtid_joins_its_neighbours(rt: HostRuntime) -> Result<(), Fail> {
     set.add(numbered(3)?)?;
     expect_text(&rt, alloc, &set, b":1-4")?;
     expect_text(&rt, alloc, &set.copy(alloc)?, b":1-4")?;
+    Ok(())
+}
+
+/// GTIDs that come to a kept position, and its text after each.
+const KEPT: [(u64, &[u8]); 6] = [
+    (8, b":1-8"),
+    (9, b":1-9"),
+    (10, b":1-10"),
+    (12, b":1-10:12"),
+    (13, b":1-10:12-13"),
+    (11, b":1-13"),
+];
+
+/// The position that this one becomes, whose text is to end so.
+fn expect_kept(
+    rt: &impl Abort,
+    alloc: Global,
+    mut position: KeptPosition,
+    number: u64,
+    spans: &[u8],
+) -> Result<KeptPosition, Fail> {
+    position.add(alloc, numbered(number)?)?;
+    assert!(rt; position.text().ends_with(spans));
+    assert!(rt; position.contains(&numbered(number)?));
+    expect_text(rt, alloc, position.set(), spans)?;
+    Ok(position)
+}
+
+#[test]
+fn a_position_keeps_its_text(rt: HostRuntime) -> Result<(), Fail> {
+    let alloc = rt.alloc();
+    let mut position = KeptPosition::of(alloc, set_of(alloc, &[1, 2, 3, 4, 5, 6, 7])?)?;
+    for (number, spans) in &KEPT {
+        position = expect_kept(&rt, alloc, position, *number, *spans)?;
+    }
     Ok(())
 }
 

@@ -22,7 +22,7 @@ impl GtidSet {
     }
 }
 
-fn put_set(intervals: &[Interval], text: &mut Vec<u8>) -> Result<(), OutOfMemory>
+pub(crate) fn put_set(intervals: &[Interval], text: &mut Vec<u8>) -> Result<(), OutOfMemory>
     ensures { OnOk result (text.new.items ≡ text.old.items ++ set_text intervals.now) }
 {
     if intervals.is_empty() {

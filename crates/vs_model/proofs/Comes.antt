@@ -9,8 +9,8 @@ use Rattle.vs_gtid.specs.declared.Entry.{Entry}
 use Rattle.vs_gtid.specs.declared.JournalValue.{JournalValue}
 use Rattle.vs_model.specs.Names.{Position, same_name, has}
 use Rattle.vs_model.specs.Logs.{Cluster, Image, HaveDistinctGtids, LogsAreDistinct, log_of, due, stop, between, IsPositionAfter}
-use Rattle.vs_model.specs.Vectors.{Vector, Place, place_of, Streams, Copies, switched, successors_of}
-use Rattle.vs_model.specs.Vectors.Place.{Fresh, Copying, Streaming}
+use Rattle.vs_gtid.specs.Vectors.{Vector, Place, place_of, Streams, Copies, switched, successors_of}
+use Rattle.vs_gtid.specs.Vectors.Place.{Fresh, Copying, Streaming}
 use Rattle.vs_model.specs.Frames.{Frame, shard_of, vector_after, last_vector}
 use Rattle.vs_model.specs.Frames.Frame.{Tx, Switch, Halt, Chunk, CopyDone, AllCopied, Beat}
 use Rattle.vs_model.specs.Copy.{Bound, Filter, CopyStep, ReadTo, IsChunk, IsCopyDone, IsCopiedTx}

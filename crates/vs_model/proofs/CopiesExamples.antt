@@ -4,7 +4,7 @@ use Rattle.std.proofs.lemmas.Cmp.{on_total, nat_cmp_total}
 use Rattle.vs_base.specs.Names.{same_name}
 use Rattle.vs_base.specs.declared.Change.{Change}
 use Rattle.vs_gtid.specs.Positions.{has}
-use Rattle.vs_model.specs.Vectors.Place.{Streaming}
+use Rattle.vs_gtid.specs.Vectors.Place.{Streaming}
 use Rattle.vs_model.specs.Frames.{frames_of}
 use Rattle.vs_model.specs.Copy.{Bound, changes_in, row_at}
 use Rattle.vs_model.specs.Copies.{IsOrdered, KeepsKeys, ChangesFit, client_row}

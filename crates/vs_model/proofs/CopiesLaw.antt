@@ -8,8 +8,8 @@ use Rattle.vs_base.specs.declared.Change.{Change}
 use Rattle.vs_base.proofs.NameLemmas.{same_name-is, same_name-refl}
 use Rattle.vs_model.specs.Names.{same_name, is_in}
 use Rattle.vs_model.specs.Logs.{Cluster, Image, LogsAreDistinct, log_of}
-use Rattle.vs_model.specs.Vectors.{Vector, Place, Copies, place_of, stands}
-use Rattle.vs_model.specs.Vectors.Place.{Fresh, Copying, Streaming}
+use Rattle.vs_gtid.specs.Vectors.{Vector, Place, Copies, place_of, stands}
+use Rattle.vs_gtid.specs.Vectors.Place.{Fresh, Copying, Streaming}
 use Rattle.vs_model.specs.Frames.{Frame, shard_of, is_of, frames_of, vector_after, last_vector, vectors_along}
 use Rattle.vs_model.specs.Frames.Frame.{Tx, Switch, Halt, Chunk, CopyDone, AllCopied, Beat}
 use Rattle.vs_model.specs.Copy.{Filter, CopyStep, changes_in, front}

@@ -21,8 +21,8 @@ use Rattle.vs_base.proofs.NameLemmas.{same_gtid-refl}
 use Rattle.vs_gtid.specs.Positions.{has}
 use Rattle.vs_model.specs.Names.{Position, same_gtid}
 use Rattle.vs_model.specs.Logs.{Image, Log, HaveDistinctGtids, IsPositionAfter, due, between, is_gtid_of}
-use Rattle.vs_model.specs.Vectors.{Place}
-use Rattle.vs_model.specs.Vectors.Place.{Fresh, Copying, Streaming}
+use Rattle.vs_gtid.specs.Vectors.{Place}
+use Rattle.vs_gtid.specs.Vectors.Place.{Fresh, Copying, Streaming}
 use Rattle.vs_model.specs.Frames.{Frame, frames_of}
 use Rattle.vs_model.specs.Frames.Frame.{Tx, Switch, Halt, Chunk, CopyDone, AllCopied, Beat}
 use Rattle.vs_model.specs.Copy.{Bound, changes_of, changes_in, is_after, is_after_in, last_of, next_rows, picked_work, picked_change, work_within, change_within, image_within, ReadTo, CopyStep, IsChunk, IsCopyDone, IsCopiedTx, chunk_of}

@@ -8,8 +8,8 @@ use Rattle.vs_base.proofs.NameLemmas.{same_name-is}
 use Rattle.vs_gtid.specs.declared.Entry.{Entry}
 use Rattle.vs_model.specs.Names.{same_name, is_in}
 use Rattle.vs_model.specs.Logs.{Cluster, LogsAreDistinct}
-use Rattle.vs_model.specs.Vectors.{Vector, Place, IsCanonicalVector, Copies, place_of, names, is_copy, moved, switched}
-use Rattle.vs_model.specs.Vectors.Place.{Fresh, Copying, Streaming}
+use Rattle.vs_gtid.specs.Vectors.{Vector, Place, IsCanonicalVector, Copies, place_of, names, is_copy, moved, switched}
+use Rattle.vs_gtid.specs.Vectors.Place.{Fresh, Copying, Streaming}
 use Rattle.vs_model.specs.Frames.{Frame, last_vector}
 use Rattle.vs_model.specs.Frames.Frame.{Switch, Halt, AllCopied, Beat}
 use Rattle.vs_model.specs.Copy.{Filter}

@@ -8,8 +8,8 @@ use Rattle.vs_gtid.specs.Positions.{IsCanonical, has}
 use Rattle.vs_gtid.specs.Joins.{joined, added}
 use Rattle.vs_model.specs.Names.{is_in}
 use Rattle.vs_model.specs.Logs.{Cluster, HaveDistinctGtids, IsPositionAfter, due, no_log}
-use Rattle.vs_model.specs.Vectors.{Vector, switched}
-use Rattle.vs_model.specs.Vectors.Place.{Fresh, Copying, Streaming}
+use Rattle.vs_gtid.specs.Vectors.{Vector, switched}
+use Rattle.vs_gtid.specs.Vectors.Place.{Fresh, Copying, Streaming}
 use Rattle.vs_model.specs.Frames.{Frame}
 use Rattle.vs_model.specs.Frames.Frame.{Tx, Switch, Chunk, CopyDone, AllCopied}
 use Rattle.vs_model.specs.Copy.{Filter, IsChunk, IsCopyDone}

@@ -9,7 +9,7 @@ use Rattle.vs_base.proofs.NameLemmas.{same_name-is}
 use Rattle.vs_gtid.specs.declared.JournalValue.{JournalValue}
 use Rattle.vs_model.specs.Names.{Position, same_name, is_in}
 use Rattle.vs_model.specs.Logs.{Cluster, LogsAreDistinct, log_of, due, stop}
-use Rattle.vs_model.specs.Vectors.{Vector, Place, IsCanonicalVector, Streams, Copies, place_of, names, is_copy, moved, switched}
+use Rattle.vs_gtid.specs.Vectors.{Vector, Place, IsCanonicalVector, Streams, Copies, place_of, names, is_copy, moved, switched}
 use Rattle.vs_model.specs.Frames.{Frame, vector_after, last_vector, is_no_beat}
 use Rattle.vs_model.specs.Frames.Frame.{Switch, Halt, AllCopied, Beat}
 use Rattle.vs_model.specs.Copy.{Filter}

@@ -11,8 +11,8 @@ use Rattle.vs_gtid.specs.declared.Work.{Work}
 use Rattle.vs_gtid.specs.declared.Work.TheVariants.{Ddl, Journal}
 use Rattle.vs_gtid.specs.declared.Entry.{Entry}
 use Rattle.vs_model.specs.Logs.{Log, due, stop, between}
-use Rattle.vs_model.specs.Vectors.{Vector, switched}
-use Rattle.vs_model.specs.Vectors.Place.{Streaming}
+use Rattle.vs_gtid.specs.Vectors.{Vector, switched}
+use Rattle.vs_gtid.specs.Vectors.Place.{Streaming}
 use Rattle.vs_model.specs.Legal.{HasGathered}
 use Rattle.vs_model.specs.Requests.{asked}
 use Rattle.vs_model.specs.Requests.Wanted.{OneShard, AllShards}

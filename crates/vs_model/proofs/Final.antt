@@ -7,8 +7,8 @@ use Rattle.vs_base.proofs.NameLemmas.{same_name-refl}
 use Rattle.vs_gtid.specs.declared.JournalValue.{JournalValue}
 use Rattle.vs_model.specs.Names.{Position, SameSet, same_name, has, is_in}
 use Rattle.vs_model.specs.Logs.{Cluster, Log, HaveDistinctGtids, LogsAreDistinct, log_of, due, stop, between, IsPositionAfter, is_gtid_of}
-use Rattle.vs_model.specs.Vectors.{Vector, Place, place_of, stands, Streams, successors_of}
-use Rattle.vs_model.specs.Vectors.Place.{Streaming}
+use Rattle.vs_gtid.specs.Vectors.{Vector, Place, place_of, stands, Streams, successors_of}
+use Rattle.vs_gtid.specs.Vectors.Place.{Streaming}
 use Rattle.vs_model.specs.Frames.{Frame, frames_of, last_vector}
 use Rattle.vs_model.specs.Frames.Frame.{Switch}
 use Rattle.vs_model.specs.Copy.{Bound, Filter}

@@ -7,8 +7,8 @@ use Rattle.vs_gtid.specs.declared.Successor.{Successor}
 use Rattle.vs_gtid.specs.declared.Entry.{Entry}
 use Rattle.vs_model.specs.Names.{Position, IsCanonical, SameSet, same_gtid, has, is_in}
 use Rattle.vs_model.specs.Logs.{Cluster, LogsAreDistinct, log_of, journal_of}
-use Rattle.vs_model.specs.Vectors.{Vector, Place, IsCanonicalPlace, IsCanonicalVector, place_of, is_copy, moved, successors_of, switched}
-use Rattle.vs_model.specs.Vectors.Place.{Fresh, Copying, Streaming}
+use Rattle.vs_gtid.specs.Vectors.{Vector, Place, IsCanonicalPlace, IsCanonicalVector, place_of, is_copy, moved, successors_of, switched}
+use Rattle.vs_gtid.specs.Vectors.Place.{Fresh, Copying, Streaming}
 use Rattle.vs_model.specs.Frames.{shard_of, vector_after}
 use Rattle.vs_model.specs.Frames.Frame.{Tx}
 use Rattle.vs_model.specs.Copy.{Bound, Filter, CopyStep}

@@ -5,7 +5,7 @@ use Rattle.std.proofs.lemmas.Bool.{or_parts, or_from, false_from_ne_true}
 use Rattle.vs_base.specs.declared.ShardName.{ShardName}
 use Rattle.vs_base.proofs.NameLemmas.{same_name-is, same_name-refl}
 use Rattle.vs_model.specs.Names.{same_name}
-use Rattle.vs_model.specs.Vectors.{Vector, Place, place_of, stands}
+use Rattle.vs_gtid.specs.Vectors.{Vector, Place, place_of, stands}
 use Rattle.vs_model.specs.Core.{Lane}
 use Rattle.vs_model.proofs.Lists.{none_in_filter}
 use Rattle.vs_model.proofs.Given.{Leads}

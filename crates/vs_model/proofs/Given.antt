@@ -10,8 +10,8 @@ use Rattle.vs_gtid.proofs.EqualSets.{canonical_unique}
 use Rattle.vs_gtid.specs.Positions.{has}
 use Rattle.vs_model.specs.Names.{Position, IsSubset, SameSet, same_gtid}
 use Rattle.vs_model.specs.Logs.{Image, Log, HaveDistinctGtids, IsPositionAfter, due, stop}
-use Rattle.vs_model.specs.Vectors.{Place, IsCanonicalPlace}
-use Rattle.vs_model.specs.Vectors.Place.{Fresh, Copying, Streaming}
+use Rattle.vs_gtid.specs.Vectors.{Place, IsCanonicalPlace}
+use Rattle.vs_gtid.specs.Vectors.Place.{Fresh, Copying, Streaming}
 use Rattle.vs_model.specs.Copy.{Bound, picked, IsCopiedTx}
 use Rattle.vs_model.specs.Steps.{AreFirstDue}
 use Rattle.vs_model.specs.Core.{Piece, PlaceAfter, IsOfCopy, AreStreamed, AreGiven, HasBase}

@@ -10,8 +10,8 @@ use Rattle.vs_gtid.specs.declared.Work.{Work}
 use Rattle.vs_gtid.specs.declared.Work.TheVariants.{Rows, Ddl, Other, Journal}
 use Rattle.vs_model.specs.Names.{Position, SameSet, same_name, is_in}
 use Rattle.vs_model.specs.Logs.{Cluster, LogsAreDistinct, log_of, journal_of}
-use Rattle.vs_model.specs.Vectors.{Vector, Place, IsCanonicalVector, Streams, Copies, place_of, stands, names, moved, switched}
-use Rattle.vs_model.specs.Vectors.Place.{Streaming}
+use Rattle.vs_gtid.specs.Vectors.{Vector, Place, IsCanonicalVector, Streams, Copies, place_of, stands, names, moved, switched}
+use Rattle.vs_gtid.specs.Vectors.Place.{Streaming}
 use Rattle.vs_model.specs.Frames.{Frame, shard_of, is_of, frames_of, vector_after}
 use Rattle.vs_model.specs.Frames.Frame.{Tx, Switch, Halt, Chunk, CopyDone, AllCopied, Beat}
 use Rattle.vs_model.specs.Copy.{Bound, Filter, picked, picked_work, CopyStep}

@@ -8,8 +8,8 @@ use Rattle.vs_base.proofs.NameLemmas.{same_name-is}
 use Rattle.vs_gtid.specs.declared.JournalValue.{JournalValue}
 use Rattle.vs_gtid.specs.declared.Successor.{Successor}
 use Rattle.vs_model.specs.Names.{Position, same_name, is_in}
-use Rattle.vs_model.specs.Vectors.{Place, Vector, place_of, stands, names, is_copy, Streams, Copies, moved, successors_of, switched}
-use Rattle.vs_model.specs.Vectors.Place.{Fresh, Copying, Streaming}
+use Rattle.vs_gtid.specs.Vectors.{Place, Vector, place_of, stands, names, is_copy, Streams, Copies, moved, successors_of, switched}
+use Rattle.vs_gtid.specs.Vectors.Place.{Fresh, Copying, Streaming}
 use Rattle.vs_model.proofs.Lists.{same_some, some_is_not_none}
 
 position_or : Position → Place → Position

@@ -3,7 +3,7 @@ use Rattle.std.proofs.Common.{◌≡◌, List, [], ◌∷◌, ◌++◌, Option, 
 use Rattle.std.specs.List.{last_or}
 use Rattle.std.proofs.lemmas.List.Elements.{filter-append}
 use Rattle.vs_model.specs.Logs.{Cluster, LogsAreDistinct}
-use Rattle.vs_model.specs.Vectors.{Vector}
+use Rattle.vs_gtid.specs.Vectors.{Vector}
 use Rattle.vs_model.specs.Frames.{Frame, vector_after, last_vector, is_no_beat}
 use Rattle.vs_model.specs.Frames.Frame.{AllCopied}
 use Rattle.vs_model.specs.Copy.{Filter}

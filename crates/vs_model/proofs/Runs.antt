@@ -8,7 +8,7 @@ use Rattle.vs_base.specs.declared.Gtid.{Gtid}
 use Rattle.vs_gtid.specs.declared.Entry.{Entry}
 use Rattle.vs_model.specs.Names.{Position, IsSubset, has}
 use Rattle.vs_model.specs.Logs.{Cluster, Log, HaveDistinctGtids, LogsAreDistinct, log_of, due, between, IsPositionAfter, is_gtid_of}
-use Rattle.vs_model.specs.Vectors.{Vector, Streams}
+use Rattle.vs_gtid.specs.Vectors.{Vector, Streams}
 use Rattle.vs_model.specs.Frames.{Frame, shard_of, is_of, frames_of, vector_after, last_vector, vectors_along}
 use Rattle.vs_model.specs.Copy.{Bound, Filter}
 use Rattle.vs_model.specs.Legal.{Sends, IsTxOf, Legal, AllCopiedFollows}

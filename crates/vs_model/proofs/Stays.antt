@@ -6,7 +6,7 @@ use Rattle.vs_base.specs.declared.ShardName.{ShardName}
 use Rattle.vs_gtid.specs.declared.JournalValue.{JournalValue}
 use Rattle.vs_model.specs.Names.{Position, is_in}
 use Rattle.vs_model.specs.Logs.{Cluster}
-use Rattle.vs_model.specs.Vectors.{Vector, stands, Streams}
+use Rattle.vs_gtid.specs.Vectors.{Vector, stands, Streams}
 use Rattle.vs_model.specs.Frames.{Frame, vector_after, last_vector, vectors_along}
 use Rattle.vs_model.specs.Frames.Frame.{Tx, Switch, Halt, Chunk, CopyDone, AllCopied, Beat}
 use Rattle.vs_model.specs.Copy.{Filter}

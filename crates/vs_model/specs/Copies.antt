@@ -9,8 +9,8 @@ use Rattle.std.specs.declared.cmp.Ordering.{Ordering}
 use Rattle.std.specs.declared.cmp.Ordering.TheVariants.{Less}
 use Rattle.vs_base.specs.declared.Change.{Change}
 use Rattle.vs_model.specs.Logs.{Image}
-use Rattle.vs_model.specs.Vectors.{Place}
-use Rattle.vs_model.specs.Vectors.Place.{Fresh, Copying, Streaming}
+use Rattle.vs_gtid.specs.Vectors.{Place}
+use Rattle.vs_gtid.specs.Vectors.Place.{Fresh, Copying, Streaming}
 use Rattle.vs_model.specs.Frames.{Frame}
 use Rattle.vs_model.specs.Frames.Frame.{Tx, Chunk}
 use Rattle.vs_model.specs.Copy.{Bound, changes_of, row_at, is_after}

@@ -16,8 +16,8 @@ use Rattle.vs_gtid.specs.declared.Work.TheVariants.{Rows, Ddl, Other, Journal}
 use Rattle.vs_gtid.specs.declared.Entry.{Entry}
 use Rattle.vs_model.specs.Names.{Position, has}
 use Rattle.vs_model.specs.Logs.{Image, Log, due, IsPositionAfter}
-use Rattle.vs_model.specs.Vectors.{Place}
-use Rattle.vs_model.specs.Vectors.Place.{Fresh, Copying, Streaming}
+use Rattle.vs_gtid.specs.Vectors.{Place}
+use Rattle.vs_gtid.specs.Vectors.Place.{Fresh, Copying, Streaming}
 use Rattle.vs_model.specs.Frames.{Frame}
 use Rattle.vs_model.specs.Frames.Frame.{Tx, Chunk, CopyDone}
 

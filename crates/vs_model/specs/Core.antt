@@ -8,8 +8,8 @@ use Rattle.vs_gtid.specs.declared.JournalValue.{JournalValue}
 use Rattle.vs_gtid.specs.declared.Entry.{Entry}
 use Rattle.vs_model.specs.Names.{Position, IsCanonical, IsSubset, SameSet, same_name, is_in}
 use Rattle.vs_model.specs.Logs.{Cluster, Image, Log, journal_of, log_of, stop, IsPositionAfter}
-use Rattle.vs_model.specs.Vectors.{Vector, Place, IsCanonicalPlace, place_of, stands, names, is_copy, moved, switched}
-use Rattle.vs_model.specs.Vectors.Place.{Fresh, Copying, Streaming}
+use Rattle.vs_gtid.specs.Vectors.{Vector, Place, IsCanonicalPlace, place_of, stands, names, is_copy, moved, switched}
+use Rattle.vs_gtid.specs.Vectors.Place.{Fresh, Copying, Streaming}
 use Rattle.vs_model.specs.Frames.{Frame}
 use Rattle.vs_model.specs.Frames.Frame.{Tx, Switch, Halt, Chunk, CopyDone, AllCopied, Beat}
 use Rattle.vs_model.specs.Copy.{Bound, Filter, IsChunk, IsCopyDone, IsCopiedTx}

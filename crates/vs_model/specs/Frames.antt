@@ -6,7 +6,7 @@ use Rattle.vs_gtid.specs.declared.JournalValue.{JournalValue}
 use Rattle.vs_gtid.specs.declared.Entry.{Entry}
 use Rattle.vs_model.specs.Names.{same_name}
 use Rattle.vs_model.specs.Logs.{Image}
-use Rattle.vs_model.specs.Vectors.{Vector}
+use Rattle.vs_gtid.specs.Vectors.{Vector}
 
 pub data Frame : Type 0 where
   Tx : (shard : ShardName) (entry : Entry) (v : Vector) → Frame

@@ -4,7 +4,7 @@ use Rattle.vs_base.specs.declared.ShardName.{ShardName}
 use Rattle.vs_gtid.specs.declared.Entry.{Entry}
 use Rattle.vs_model.specs.Names.{Position}
 use Rattle.vs_model.specs.Logs.{Cluster, HaveDistinctGtids, Log, LogsAreDistinct, due, stop, IsPositionAfter}
-use Rattle.vs_model.specs.Vectors.{Vector}
+use Rattle.vs_gtid.specs.Vectors.{Vector}
 use Rattle.vs_model.specs.Frames.{Frame}
 use Rattle.vs_model.specs.Frames.Frame.{Tx}
 use Rattle.vs_model.specs.Copy.{Filter}

@@ -6,7 +6,7 @@ use Rattle.vs_gtid.specs.declared.JournalValue.{JournalValue}
 use Rattle.vs_gtid.specs.declared.Entry.{Entry}
 use Rattle.vs_model.specs.Names.{Position, IsSubset, SameSet, is_in}
 use Rattle.vs_model.specs.Logs.{Cluster, Log, log_of, journal_of, is_own, due, stop, between, IsPositionAfter}
-use Rattle.vs_model.specs.Vectors.{Vector, Place, IsCanonicalVector, place_of, stands, names, Streams, Copies, switched}
+use Rattle.vs_gtid.specs.Vectors.{Vector, Place, IsCanonicalVector, place_of, stands, names, Streams, Copies, switched}
 use Rattle.vs_model.specs.Frames.{Frame, shard_of, frames_of, vector_after, last_vector, vectors_along, is_no_beat}
 use Rattle.vs_model.specs.Frames.Frame.{Tx, Switch, Halt, CopyDone, AllCopied}
 use Rattle.vs_model.specs.Copy.{Bound, Filter, picked, CopyStep}

@@ -6,8 +6,8 @@ use Rattle.vs_gtid.specs.declared.JournalValue.{JournalValue}
 use Rattle.vs_gtid.specs.declared.Entry.{Entry}
 use Rattle.vs_model.specs.Names.{Position, SameSet, IsSubset, same_name, is_in}
 use Rattle.vs_model.specs.Logs.{Cluster, journal_of, log_of, due, stop, IsPositionAfter}
-use Rattle.vs_model.specs.Vectors.{Vector, Place, place_of, stands, names, Streams, Copies, successors_of}
-use Rattle.vs_model.specs.Vectors.Place.{Fresh, Copying, Streaming}
+use Rattle.vs_gtid.specs.Vectors.{Vector, Place, place_of, stands, names, Streams, Copies, successors_of}
+use Rattle.vs_gtid.specs.Vectors.Place.{Fresh, Copying, Streaming}
 use Rattle.vs_model.specs.Frames.{Frame, frames_of}
 use Rattle.vs_model.specs.Copy.{Filter}
 use Rattle.vs_model.specs.Legal.{IsTxOf}

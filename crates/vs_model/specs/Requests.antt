@@ -10,8 +10,8 @@ use Rattle.vs_base.specs.declared.LastKey.{LastKey}
 use Rattle.vs_base.specs.Names.{names_differ}
 use Rattle.vs_model.specs.Names.{Position}
 use Rattle.vs_model.specs.Logs.{Cluster, Log, log_of, IsPositionAfter}
-use Rattle.vs_model.specs.Vectors.{Place, Vector, IsCanonicalVector, names}
-use Rattle.vs_model.specs.Vectors.Place.{Fresh, Copying, Streaming}
+use Rattle.vs_gtid.specs.Vectors.{Place, Vector, IsCanonicalVector, names}
+use Rattle.vs_gtid.specs.Vectors.Place.{Fresh, Copying, Streaming}
 
 -- from where a shard is asked for: a copy, a copy that goes on, a position, or the log's end
 pub data StartAt : Type 0 where

@@ -5,8 +5,8 @@ use Rattle.vs_base.specs.declared.ShardName.{ShardName}
 use Rattle.vs_gtid.specs.declared.Entry.{Entry}
 use Rattle.vs_model.specs.Names.{Position, IsSubset, SameSet}
 use Rattle.vs_model.specs.Logs.{Cluster, Log, log_of, journal_of, due, IsPositionAfter}
-use Rattle.vs_model.specs.Vectors.{Vector, Place, IsCanonicalVector, Streams, Copies, moved}
-use Rattle.vs_model.specs.Vectors.Place.{Streaming}
+use Rattle.vs_gtid.specs.Vectors.{Vector, Place, IsCanonicalVector, Streams, Copies, moved}
+use Rattle.vs_gtid.specs.Vectors.Place.{Streaming}
 use Rattle.vs_model.specs.Frames.{Frame, shard_of, vector_after}
 use Rattle.vs_model.specs.Copy.{Bound, Filter, picked, CopyStep}
 use Rattle.vs_model.specs.Legal.{Sends, IsLawful, NoParticipantStands, JournalFits}

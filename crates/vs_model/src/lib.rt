@@ -33,8 +33,8 @@ ghost use Rattle.vs_model.specs.Names.{Position, is_in};
 ghost use Rattle.vs_model.specs.Reached.{HasAllDue, IsFinal, IsSettled, StartsAreUnique, StartsToStream, start_of};
 ghost use Rattle.vs_model.specs.Requests.{by_shard, is_of, shards_of};
 ghost use Rattle.vs_model.specs.Steps.{AreFirstDue, SendsCopy, Step, Steps};
-ghost use Rattle.vs_model.specs.Vectors.Place.{Fresh};
-ghost use Rattle.vs_model.specs.Vectors.{Copies, IsCanonicalPlace, IsCanonicalVector, Place, Vector, place_of, stands, switched};
+ghost use Rattle.vs_gtid.specs.Vectors.Place.{Fresh};
+ghost use Rattle.vs_gtid.specs.Vectors.{Copies, IsCanonicalPlace, IsCanonicalVector, Place, Vector, place_of, stands, switched};
 
 /// Frames that follow one another by lawful steps are a legal list, and there is no other.
 pub fn law_steps()

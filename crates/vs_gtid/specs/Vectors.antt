@@ -1,10 +1,16 @@
 -- Vectors: how far each shard of a stream has come.
 use Rattle.vs_base.specs.declared.LastKey.{LastKey}
 use Rattle.vs_base.specs.declared.ShardName.{ShardName}
-use Rattle.vs_gtid.specs.declared.JournalValue.{JournalValue}
+use Rattle.vs_base.specs.Names.{same_name}
+use Rattle.vs_gtid.specs.declared.journal.JournalValue.{JournalValue}
+use Rattle.vs_gtid.specs.declared.journal.Successor.{Successor}
+use Rattle.vs_gtid.specs.Positions.{Position, IsCanonical}
 use Rattle.std.specs.Prelude.{◌≡◌, Bool, true, false, not, List, [], ◌∷◌, ◌++◌, map, Option, Some, None, if◌then◌else◌, is_some}
-use Rattle.std.specs.List.{filter, AllByRecursion}
-use Rattle.vs_model.specs.Names.{Position, IsCanonical, same_name, is_in}
+use Rattle.std.specs.List.{filter, list_any, AllByRecursion}
+
+-- whether the name is among the names
+abbrev pub is_in : ShardName → List ShardName → Bool
+is_in s names = list_any (same_name s) names
 
 -- how far a shard has come: it is to be copied, it copies and has sent all up to a row, or it streams
 pub data Place : Type 0 where
@@ -44,13 +50,20 @@ abbrev pub moved : Vector → ShardName → Place → Vector
 moved [] s place = []
 moved (slot ∷ v) s place = if same_name slot.0 s then (slot.0, place) ∷ v else slot ∷ moved v s place
 
--- the successors of a journal, each at its position
+-- successors, each streaming from its position
+abbrev pub begun_at : List Successor → Vector
+begun_at ns = map (λ n. (n.name, Streaming n.position)) ns
+
 abbrev pub successors_of : JournalValue → Vector
-successors_of j = map (λ n. (n.name, Streaming n.position)) j.successors
+successors_of j = begun_at j.successors
+
+-- the vector without the shards that leave, and with the successors at its end
+abbrev pub replaced : Vector → List ShardName → List Successor → Vector
+replaced v leaving ns = filter (λ slot. not (is_in slot.0 leaving)) v ++ begun_at ns
 
 -- the vector at the switch of a journal: without its participants, and with its successors at the end
 abbrev pub switched : Vector → JournalValue → Vector
-switched v j = filter (λ slot. not (is_in slot.0 j.participants)) v ++ successors_of j
+switched v j = replaced v j.participants j.successors
 
 -- the position of a place is spelled in one way only
 abbrev pub IsCanonicalPlace : Place → Type 0
