@@ -23,8 +23,6 @@ mod row;
 mod standing;
 #[cfg(test)]
 mod tests;
-#[cfg(test)]
-mod texts_for_tests;
 mod took;
 mod walk;
 mod window;

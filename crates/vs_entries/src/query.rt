@@ -31,7 +31,7 @@ pub fn read_statement<'a>(body: &'a [u8], keyspace: &[u8]) -> Option<Told<'a>>
 }
 
 /// What a statement under a default schema is in the log of a shard of the keyspace.
-fn kind_of(schema: &[u8], text: &[u8], keyspace: &[u8]) -> StatementKind
+pub fn kind_of(schema: &[u8], text: &[u8], keyspace: &[u8]) -> StatementKind
     ensures { told_by result text.now ≡ said keyspace.now schema.now text.now (first_word text.now) }
 {
     let word = first_word(text);

@@ -1,16 +1,14 @@
-use crate::events_for_tests::{
-    BEGIN, COMMIT, DROP_S, DROP_T, Event, FIRST_FIVE, FORMAT, INSERTS, JOURNAL, LARGE_QUERY,
-    LARGE_STOP, MAGIC, MAP, NO_BASE, OTHERS, OURS, SAVEPOINT, SHORT_HEAD, XID, put_events,
-    put_head,
-};
+use crate::events_for_tests::*;
 use crate::front::front_event;
+use crate::kind::StatementKind;
 use crate::progress::Progress;
-use crate::texts_for_tests::told;
-use crate::{Reader, Took, law_no_journals, law_part};
-use std::alloc::{AllocError, Global};
+use crate::query::kind_of;
+use crate::{LogRefusal, Reader, Took, law_no_journals, law_part};
+use std::alloc::Global;
 use std::process::Abort;
 use std::test::Fail;
-use vs_base::Why;
+use vs_base::{OutOfMemory, Why};
+use vs_journal::Work;
 use vs_schema::Schema;
 
 const SCHEMA: &[u8] = b"table t\ncolumn id int\ncolumn v varchar(20)\nkey id\nskip s\n";
@@ -21,14 +19,142 @@ fn reader(alloc: Global) -> Result<Reader, Fail> {
     Ok(Reader::new(alloc, &schema, b"c")?)
 }
 
-/// Events of a log, and what a reader gives of it: its entries, each with its number and its time, and
-/// the fault behind them with its place.
-type Case = (&'static [Event], &'static [u8]);
+fn feed_all(reader: &mut Reader, events: &[&[u8]]) -> Result<(), OutOfMemory> {
+    for event in events {
+        reader.feed(event)?;
+    }
+    Ok(())
+}
 
-/// A whole log, how many intervals its base has once it is known, and what a reader gives of it.
-type Front = (&'static [Event], Option<usize>, &'static [u8]);
+/// What a fault is called, and the number that it names.
+fn fault_of(why: &Why) -> (&'static str, u64) {
+    match why {
+        Why::BadMagic => ("bad magic", 0),
+        Why::NoFormat => ("no format", 0),
+        Why::BadVersion { version } => ("bad version", *version as u64),
+        Why::Checksummed { kind } => ("checksummed", *kind as u64),
+        Why::BadLength { length } => ("bad length", *length as u64),
+        Why::BadEvent { kind } => ("bad event", *kind as u64),
+        Why::BadOrder { kind } => ("out of order", *kind as u64),
+        Why::NestedBegin => ("nested begin", 0),
+        Why::Anonymous => ("anonymous", 0),
+        Why::BadGtid => ("bad gtid", 0),
+        Why::RepeatedGtid { gtid } => ("repeated gtid", gtid.number),
+        Why::Unsupported { kind } => ("unsupported event", *kind as u64),
+        Why::UnsupportedStatement => ("unsupported statement", 0),
+        Why::TooLarge { bytes } => ("too large", *bytes),
+        Why::TooManyIntervals => ("too many intervals", 0),
+        Why::UnknownTableId { id } => ("unknown table id", *id),
+        Why::UnknownTable { .. } => ("unknown table", 0),
+        Why::Disagrees { .. } => ("disagrees", 0),
+        Why::NotFullImage { .. } => ("not full", 0),
+        Why::BadRow { .. } => ("bad row", 0),
+        Why::JournalNotAlone => ("journal not alone", 0),
+        Why::NotBuilt => ("not built", 0),
+    }
+}
 
-/// How many intervals the base has, once it is known.
+/// The number of the last entry that a reader gives (0 for none), and the fault behind it with what it
+/// names and its place; "open" where there is none.
+type Told = (u64, &'static str, u64, u64);
+
+fn told(reader: &mut Reader) -> Told {
+    let mut last = 0;
+    for _ in 0..5 {
+        match reader.next_entry() {
+            Ok(Took::Entry { entry, .. }) => last = entry.gtid.number,
+            Ok(Took::More) => return (last, "open", 0, 0),
+            Err(LogRefusal::BadLog { offset, why }) => {
+                let (name, number) = fault_of(&why);
+                return (last, name, number, offset);
+            }
+            Err(LogRefusal::Memory) => return (last, "no memory", 0, 0),
+        }
+    }
+    (last, "more entries", 0, 0)
+}
+
+/// Events of a log, and what a reader tells of it.
+type Case = (&'static [&'static [u8]], Told);
+
+/// Checks logs that begin with the same events.
+fn check(rt: &impl Abort, alloc: Global, front: &[&[u8]], cases: &[Case]) -> Result<(), Fail> {
+    for (events, wanted) in cases {
+        let mut reader = reader(alloc)?;
+        feed_all(&mut reader, front)?;
+        feed_all(&mut reader, events)?;
+        assert_eq!(rt; told(&mut reader), *wanted);
+    }
+    Ok(())
+}
+
+/// Logs from their first byte on. The faults of a format description have an order.
+const STARTS: &[Case] = &[
+    (&[], (0, "open", 0, 0)),
+    (&[b"\xfeb"], (0, "open", 0, 0)),
+    (&[b"\xfec"], (0, "bad magic", 0, 0)),
+    (&[b"\xfebix", FORMAT], (0, "bad magic", 0, 0)),
+    (&[MAGIC, GTID_1], (0, "no format", 0, 4)),
+    (&[MAGIC, IGNORABLE], (0, "no format", 0, 4)),
+    (&[MAGIC, LARGE_QUERY], (0, "too large", 67_108_865, 4)),
+    (&[MAGIC, SHORT_HEAD], (0, "bad length", 18, 4)),
+    (&[MAGIC, SHORT_FORMAT], (0, "bad event", 15, 4)),
+    (&[MAGIC, FORMAT_OF_5], (0, "bad version", 5, 4)),
+    (&[MAGIC, FORMAT_OF_18], (0, "bad event", 15, 4)),
+    (&[MAGIC, FORMAT_SUMMED], (0, "checksummed", 1, 4)),
+];
+
+#[test]
+fn starts(rt: HostRuntime) -> Result<(), Fail> {
+    check(&rt, rt.alloc(), &[], STARTS)
+}
+
+/// Events behind the format description, from byte 85 on: bases, and GTIDs that stood before.
+const BASES: &[Case] = &[
+    (&[CUT_BASE], (0, "bad event", 35, 85)),
+    (&[NO_BASE, NO_BASE], (0, "out of order", 35, 112)),
+    (&[GTID_1, DROP_T, NO_BASE], (1, "out of order", 35, 178)),
+    (&[FORMAT], (0, "out of order", 15, 85)),
+    (&[ANONYMOUS], (0, "anonymous", 0, 85)),
+    (
+        &[FIRST_FIVE, GTID_6, DROP_T, GTID_5],
+        (6, "repeated gtid", 5, 245),
+    ),
+    (
+        &[FIRST_FIVE, GTID_7, DROP_T, GTID_7],
+        (7, "repeated gtid", 7, 245),
+    ),
+    (
+        &[NO_BASE, GTID_1, DROP_T, GTID_2, DROP_S],
+        (2, "open", 0, 0),
+    ),
+    (
+        &[NO_BASE, GTID_1, DROP_T, SHORT_HEAD],
+        (1, "bad length", 18, 205),
+    ),
+    (
+        &[NO_BASE, GTID_2, DROP_S, GTID_1, DROP_T, LOAD],
+        (1, "unsupported event", 9, 298),
+    ),
+];
+
+#[test]
+fn bases(rt: HostRuntime) -> Result<(), Fail> {
+    check(&rt, rt.alloc(), &[MAGIC, FORMAT], BASES)
+}
+
+/// Events behind the format description, and how many intervals the base has, once it is known.
+const INTERVALS: &[(&[&[u8]], Option<usize>)] = &[
+    (&[], None),
+    (&[STOP, IGNORABLE], None),
+    (&[NO_BASE], Some(0)),
+    (&[FIRST_FIVE], Some(1)),
+    (&[FLAGGED_FIVE], Some(1)),
+    (&[IGNORABLE, FIRST_FIVE], Some(1)),
+    (&[GTID_1], Some(0)),
+    (&[CUT_BASE], Some(0)),
+];
+
 fn intervals_of(reader: &Reader) -> Option<usize> {
     match reader.base() {
         Some(base) => Some(base.intervals()),
@@ -36,663 +162,258 @@ fn intervals_of(reader: &Reader) -> Option<usize> {
     }
 }
 
-fn check_front(rt: &impl Abort, alloc: Global, case: &Front) -> Result<(), Fail> {
-    let (events, base, wanted) = case;
-    let mut log = Vec::new(alloc);
-    put_events(&mut log, 98, events)?;
-    let mut reader = reader(alloc)?;
-    reader.feed(log.as_slice())?;
-    assert_eq!(rt; intervals_of(&reader), *base);
-    let text = told(alloc, &mut reader)?;
-    assert_eq!(rt; text.as_slice(), *wanted);
-    Ok(())
-}
-
-static FRONTS: [Front; 29] = [
-    // nothing; a part of the magic; another magic
-    (&[], None, b""),
-    (&[Event::Bytes(b"\xfeb")], None, b""),
-    (&[Event::Bytes(b"\xfec")], None, b" bad magic at 0"),
-    (
-        &[Event::Bytes(b"\xfebix"), FORMAT],
-        None,
-        b" bad magic at 0",
-    ),
-    // no format description; one that is refused, in the order of its faults
-    (&[MAGIC, Event::Gtid(1)], None, b" no format at 4"),
-    (&[MAGIC, Event::Flagged(38, b"")], None, b" no format at 4"),
-    (&[MAGIC, LARGE_QUERY], None, b" too large at 4: 67108865"),
-    (&[MAGIC, SHORT_HEAD], None, b" bad length at 4: 18"),
-    (
-        &[MAGIC, Event::Of(15, b"\x05\0")],
-        None,
-        b" bad event at 4: 15",
-    ),
-    (
-        &[MAGIC, Event::Format(5, 18, 1)],
-        None,
-        b" bad version at 4: 5",
-    ),
-    (
-        &[MAGIC, Event::Format(4, 18, 1)],
-        None,
-        b" bad event at 4: 15",
-    ),
-    (
-        &[MAGIC, Event::Format(4, 19, 1)],
-        None,
-        b" checksummed at 4: 1",
-    ),
-    // the base isn't known before the first event behind the format description
-    (&[MAGIC, FORMAT], None, b""),
-    (
-        &[MAGIC, FORMAT, Event::Of(3, b""), Event::Flagged(38, b"")],
-        None,
-        b"",
-    ),
-    (&[MAGIC, FORMAT, NO_BASE], Some(0), b""),
-    (&[MAGIC, FORMAT, Event::Of(35, FIRST_FIVE)], Some(1), b""),
-    (
-        &[MAGIC, FORMAT, Event::Flagged(35, FIRST_FIVE)],
-        Some(1),
-        b"",
-    ),
-    (
-        &[
-            MAGIC,
-            FORMAT,
-            Event::Flagged(38, b""),
-            Event::Of(35, FIRST_FIVE),
-        ],
-        Some(1),
-        b"",
-    ),
-    // a log may lack a base; a base that is refused, or comes late
-    (
-        &[MAGIC, FORMAT, Event::Gtid(1), DROP_T],
-        Some(0),
-        b"1@101 ddl drop table t.",
-    ),
-    (
-        &[MAGIC, FORMAT, Event::Of(35, b"\x01\0\0\0\0\0\0\0")],
-        Some(0),
-        b" bad event at 85: 35",
-    ),
-    (
-        &[MAGIC, FORMAT, NO_BASE, NO_BASE],
-        Some(0),
-        b" out of order at 112: 35",
-    ),
-    (
-        &[MAGIC, FORMAT, Event::Gtid(1), DROP_T, NO_BASE],
-        Some(0),
-        b"1@101 ddl drop table t. out of order at 178: 35",
-    ),
-    (
-        &[MAGIC, FORMAT, FORMAT],
-        Some(0),
-        b" out of order at 85: 15",
-    ),
-    (
-        &[MAGIC, FORMAT, Event::Of(34, b"")],
-        Some(0),
-        b" anonymous at 85",
-    ),
-    // GTIDs behind a base, one that stands in it, and one that stood before
-    (
-        &[
-            MAGIC,
-            FORMAT,
-            Event::Of(35, FIRST_FIVE),
-            Event::Gtid(6),
-            DROP_T,
-            Event::Gtid(5),
-        ],
-        Some(1),
-        b"6@102 ddl drop table t. repeated gtid at 245: 5",
-    ),
-    (
-        &[
-            MAGIC,
-            FORMAT,
-            Event::Of(35, FIRST_FIVE),
-            Event::Gtid(7),
-            DROP_T,
-            Event::Gtid(7),
-        ],
-        Some(1),
-        b"7@102 ddl drop table t. repeated gtid at 245: 7",
-    ),
-    // two statements; the fault of a head behind one of them, and one behind the other
-    (
-        &[
-            MAGIC,
-            FORMAT,
-            NO_BASE,
-            Event::Gtid(1),
-            DROP_T,
-            Event::Gtid(2),
-            DROP_S,
-        ],
-        Some(0),
-        b"1@102 ddl drop table t.2@104 ddl drop table s.",
-    ),
-    (
-        &[MAGIC, FORMAT, NO_BASE, Event::Gtid(1), DROP_T, SHORT_HEAD],
-        Some(0),
-        b"1@102 ddl drop table t. bad length at 205: 18",
-    ),
-    (
-        &[
-            MAGIC,
-            FORMAT,
-            NO_BASE,
-            Event::Gtid(2),
-            DROP_S,
-            Event::Gtid(1),
-            DROP_T,
-            Event::Of(9, b""),
-        ],
-        Some(0),
-        b"2@102 ddl drop table s.1@104 ddl drop table t. unsupported event at 298: 9",
-    ),
-];
-
 #[test]
-fn fronts_and_bases(rt: HostRuntime) -> Result<(), Fail> {
-    for case in &FRONTS {
-        check_front(&rt, rt.alloc(), case)?;
+fn intervals_of_bases(rt: HostRuntime) -> Result<(), Fail> {
+    for (events, wanted) in INTERVALS {
+        let mut reader = reader(rt.alloc())?;
+        feed_all(&mut reader, &[MAGIC, FORMAT])?;
+        feed_all(&mut reader, events)?;
+        assert_eq!(rt; intervals_of(&reader), *wanted);
     }
     Ok(())
 }
 
-const FRONT: &[Event] = &[MAGIC, FORMAT, NO_BASE];
-
-/// Checks what stands behind the format description and an empty base.
-fn check(rt: &impl Abort, alloc: Global, case: &Case) -> Result<(), Fail> {
-    let (events, wanted) = case;
-    let mut log = Vec::new(alloc);
-    put_events(&mut log, 1, FRONT)?;
-    put_events(&mut log, 100, events)?;
-    let mut reader = reader(alloc)?;
-    reader.feed(log.as_slice())?;
-    let text = told(alloc, &mut reader)?;
-    assert_eq!(rt; text.as_slice(), *wanted);
-    Ok(())
-}
-
-/// Statements that stand alone, at byte 156, behind a GTID event.
-static STATEMENTS: [Case; 20] = [
-    (
-        &[
-            Event::Gtid(1),
-            Event::Query(b"vt_c", b"create table t (id int)"),
-        ],
-        b"1@101 ddl create table t (id int).",
-    ),
-    (
-        &[
-            Event::Gtid(1),
-            Event::Query(b"vt_c", b"Alter\ttable t add x int"),
-        ],
-        b"1@101 ddl Alter\ttable t add x int.",
-    ),
-    (
-        &[Event::Gtid(1), Event::Query(b"vt_c", b"truncate t")],
-        b"1@101 ddl truncate t.",
-    ),
-    (
-        &[
-            Event::Gtid(1),
-            Event::Query(b"vt_c", b"RENAME table t to s"),
-        ],
-        b"1@101 ddl RENAME table t to s.",
-    ),
-    (
-        &[
-            Event::Gtid(1),
-            Event::Query(b"vt_c", b" \t\r\n/* a */ /*b*/drop table t"),
-        ],
-        b"1@101 ddl  \t\r\n/* a */ /*b*/drop table t.",
-    ),
-    (
-        &[
-            Event::Gtid(1),
-            Event::Query(b"vt_d", b"create table t (id int)"),
-        ],
-        b"1@101 other.",
-    ),
-    (
-        &[
-            Event::Gtid(1),
-            Event::Query(b"", b"create table vt_c.t (id int)"),
-        ],
-        b"1@101 other.",
-    ),
-    (
-        &[
-            Event::Gtid(1),
-            Event::Query(b"vt_c", b"/*!40000 drop table t */"),
-        ],
-        b"1@101 other.",
-    ),
-    (
-        &[Event::Gtid(1), Event::Query(b"vt_c", b"/* drop table t")],
-        b"1@101 other.",
-    ),
-    (
-        &[Event::Gtid(1), Event::Query(b"vt_c", b"/*/ drop table t")],
-        b"1@101 other.",
-    ),
-    (
-        &[Event::Gtid(1), Event::Query(b"vt_c", b"dropped")],
-        b"1@101 other.",
-    ),
-    (
-        &[Event::Gtid(1), Event::Query(b"vt_c", b"drop_t")],
-        b"1@101 other.",
-    ),
-    (
-        &[Event::Gtid(1), Event::Query(b"vt_c", b"drop;")],
-        b"1@101 ddl drop;.",
-    ),
-    (
-        &[Event::Gtid(1), Event::Query(b"vt_c", b"grant all")],
-        b"1@101 other.",
-    ),
-    (
-        &[Event::Gtid(1), Event::Query(b"vt_c", b"")],
-        b"1@101 other.",
-    ),
-    (
-        &[Event::Gtid(1), Event::Query(b"vt_c", b"commit")],
-        b"1@101 other.",
-    ),
-    (
-        &[Event::Gtid(1), Event::Query(b"vt_c", b"savepoint s")],
-        b"1@101 other.",
-    ),
-    (
-        &[Event::Gtid(1), Event::Query(b"vt_c", b"xa start 'x'")],
-        b" unsupported statement at 156",
-    ),
-    (
-        &[Event::Gtid(1), Event::Query(b"", b"XA commit 'x'")],
-        b" unsupported statement at 156",
-    ),
-    (&[Event::Gtid(1), Event::Query(b"vt_c", b"begin")], b""),
+/// Events between entries, at byte 112, and behind a GTID event, at byte 156.
+const OUTSIDE: &[Case] = &[
+    (&[DROP_T], (0, "out of order", 2, 112)),
+    (&[XID], (0, "out of order", 16, 112)),
+    (&[MAP], (0, "out of order", 19, 112)),
+    (&[INSERTS], (0, "out of order", 30, 112)),
+    (&[FLAGGED_ANONYMOUS], (0, "anonymous", 0, 112)),
+    (&[GTID_0], (0, "bad gtid", 0, 112)),
+    (&[GTID_LAST], (0, "bad gtid", 0, 112)),
+    (&[CUT_GTID], (0, "bad event", 33, 112)),
+    (&[GTID_1, XID], (0, "out of order", 16, 156)),
+    (&[GTID_1, MAP], (0, "out of order", 19, 156)),
+    (&[GTID_1, INSERTS], (0, "out of order", 30, 156)),
+    (&[GTID_1, GTID_2], (0, "out of order", 33, 156)),
+    (&[GTID_1, CUT_QUERY], (0, "bad event", 2, 156)),
+    (&[GTID_1, XA], (0, "unsupported statement", 0, 156)),
 ];
 
-#[test]
-fn statements(rt: HostRuntime) -> Result<(), Fail> {
-    for case in &STATEMENTS {
-        check(&rt, rt.alloc(), case)?;
-    }
-    Ok(())
-}
-
-/// What may stand where. A transaction's events begin at byte 198.
-static ORDERS: [Case; 41] = [
-    // the ends of a transaction, and what stands in one
-    (&[Event::Gtid(1), BEGIN, COMMIT], b"1@102 rows."),
-    (&[Event::Gtid(1), BEGIN, XID], b"1@102 rows."),
-    (
-        &[
-            Event::Gtid(1),
-            BEGIN,
-            Event::Of(16, b"\0\0\0\0\0\0\0\0more"),
-        ],
-        b"1@102 rows.",
-    ),
-    (
-        &[Event::Gtid(1), BEGIN, Event::Of(16, b"\0\0\0\0\0\0\0")],
-        b" bad event at 198: 16",
-    ),
-    (
-        &[
-            Event::Gtid(1),
-            BEGIN,
-            Event::Of(3, b""),
-            SAVEPOINT,
-            Event::Flagged(38, b""),
-            XID,
-        ],
-        b"1@105 rows.",
-    ),
-    (&[Event::Gtid(1), BEGIN, BEGIN], b" nested begin at 198"),
-    (
-        &[Event::Gtid(1), BEGIN, DROP_T],
-        b" unsupported statement at 198",
-    ),
-    (
-        &[
-            Event::Gtid(1),
-            BEGIN,
-            Event::Query(b"vt_c", b"xa start 'x'"),
-        ],
-        b" unsupported statement at 198",
-    ),
-    (
-        &[Event::Gtid(1), BEGIN, Event::Of(2, b"")],
-        b" bad event at 198: 2",
-    ),
-    (
-        &[Event::Gtid(1), BEGIN, Event::Gtid(2)],
-        b" out of order at 198: 33",
-    ),
-    (
-        &[Event::Gtid(1), BEGIN, NO_BASE],
-        b" out of order at 198: 35",
-    ),
-    (
-        &[Event::Gtid(1), BEGIN, FORMAT],
-        b" out of order at 198: 15",
-    ),
-    (
-        &[Event::Gtid(1), BEGIN, Event::Of(34, b"")],
-        b" anonymous at 198",
-    ),
-    (
-        &[Event::Gtid(1), BEGIN, Event::Of(38, b"")],
-        b" unsupported event at 198: 38",
-    ),
-    // rows, once and twice
-    (
-        &[Event::Gtid(1), BEGIN, MAP, INSERTS, XID],
-        b"1@104 rows t ->[5][a] t ->[6][NULL].",
-    ),
-    (
-        &[Event::Gtid(1), BEGIN, MAP, SAVEPOINT, INSERTS, COMMIT],
-        b"1@105 rows t ->[5][a] t ->[6][NULL].",
-    ),
-    (
-        &[Event::Gtid(1), BEGIN, MAP, INSERTS, INSERTS, COMMIT],
-        b"1@105 rows t ->[5][a] t ->[6][NULL] t ->[5][a] t ->[6][NULL].",
-    ),
-    (&[Event::Gtid(1), BEGIN, MAP, XID], b"1@103 rows."),
-    // what isn't whole at the end
-    (&[], b""),
-    (&[Event::Gtid(1)], b""),
-    (&[Event::Gtid(1), BEGIN, MAP, INSERTS], b""),
-    (
-        &[
-            Event::Gtid(1),
-            BEGIN,
-            MAP,
-            INSERTS,
-            XID,
-            Event::Gtid(2),
-            BEGIN,
-            MAP,
-            Event::Bytes(b"\0\0\0\0\x1e\0\0\0\0\x2b"),
-        ],
-        b"1@104 rows t ->[5][a] t ->[6][NULL].",
-    ),
-    // the places between entries, and behind a GTID event
-    (&[DROP_T], b" out of order at 112: 2"),
-    (&[XID], b" out of order at 112: 16"),
-    (&[MAP], b" out of order at 112: 19"),
-    (&[INSERTS], b" out of order at 112: 30"),
-    (&[Event::Flagged(34, b"")], b" anonymous at 112"),
-    (&[Event::Gtid(0)], b" bad gtid at 112"),
-    (
-        &[Event::Gtid(9_223_372_036_854_775_807)],
-        b" bad gtid at 112",
-    ),
-    (&[Event::Of(33, b"\0")], b" bad event at 112: 33"),
-    (&[Event::Gtid(1), XID], b" out of order at 156: 16"),
-    (&[Event::Gtid(1), MAP], b" out of order at 156: 19"),
-    (&[Event::Gtid(1), INSERTS], b" out of order at 156: 30"),
-    (
-        &[Event::Gtid(1), Event::Gtid(2)],
-        b" out of order at 156: 33",
-    ),
-    (
-        &[Event::Gtid(1), Event::Of(2, b"")],
-        b" bad event at 156: 2",
-    ),
-    (
-        &[Event::Gtid(1), Event::Of(4, b""), DROP_T],
-        b"1@102 ddl drop table t.",
-    ),
-    // the sum of an entry's events; what is passed over counts alone
-    (
-        &[
-            Event::Gtid(1),
-            Event::Bytes(b"\0\0\0\0\x02\0\0\0\0\xd4\xff\xff\x03\0\0\0\0\0\0"),
-        ],
-        b"",
-    ),
-    (
-        &[
-            Event::Gtid(1),
-            Event::Bytes(b"\0\0\0\0\x02\0\0\0\0\xd5\xff\xff\x03\0\0\0\0\0\0"),
-        ],
-        b" too large at 156: 67108865",
-    ),
-    (
-        &[
-            Event::Gtid(1),
-            Event::Bytes(b"\0\0\0\0\x03\0\0\0\0\0\0\0\x04\0\0\0\0\0\0"),
-        ],
-        b"",
-    ),
-    (
-        &[Event::Gtid(1), LARGE_STOP],
-        b" too large at 156: 67108865",
-    ),
-    (&[LARGE_QUERY], b" too large at 112: 67108865"),
+/// Events inside a transaction, at byte 198.
+const INSIDE: &[Case] = &[
+    (&[CUT_XID], (0, "bad event", 16, 198)),
+    (&[BEGIN], (0, "nested begin", 0, 198)),
+    (&[DROP_T], (0, "unsupported statement", 0, 198)),
+    (&[XA], (0, "unsupported statement", 0, 198)),
+    (&[CUT_QUERY], (0, "bad event", 2, 198)),
+    (&[GTID_2], (0, "out of order", 33, 198)),
+    (&[NO_BASE], (0, "out of order", 35, 198)),
+    (&[FORMAT], (0, "out of order", 15, 198)),
+    (&[ANONYMOUS], (0, "anonymous", 0, 198)),
+    (&[IGNORABLE_UNFLAGGED], (0, "unsupported event", 38, 198)),
 ];
 
 #[test]
 fn orders(rt: HostRuntime) -> Result<(), Fail> {
-    for case in &ORDERS {
-        check(&rt, rt.alloc(), case)?;
-    }
-    Ok(())
+    check(&rt, rt.alloc(), &[MAGIC, FORMAT, NO_BASE], OUTSIDE)?;
+    check(
+        &rt,
+        rt.alloc(),
+        &[MAGIC, FORMAT, NO_BASE, GTID_1, BEGIN],
+        INSIDE,
+    )
 }
 
-/// Table maps, which stand at byte 198, and rows.
-static ROWS: [Case; 18] = [
-    // table maps
+/// Logs that end inside an entry, and events as long as may be. What is passed over counts alone.
+const CUTS: &[Case] = &[
+    (&[], (0, "open", 0, 0)),
+    (&[GTID_1], (0, "open", 0, 0)),
+    (&[GTID_1, BEGIN, MAP, INSERTS], (0, "open", 0, 0)),
+    (&[GTID_1, DROP_T, GTID_2, TEN_BYTES], (1, "open", 0, 0)),
+    (&[GTID_1, LIMIT_QUERY], (0, "open", 0, 0)),
+    (&[GTID_1, OVER_QUERY], (0, "too large", 67_108_865, 156)),
+    (&[GTID_1, LIMIT_STOP], (0, "open", 0, 0)),
+    (&[GTID_1, LARGE_STOP], (0, "too large", 67_108_865, 156)),
+    (&[LARGE_QUERY], (0, "too large", 67_108_865, 112)),
+];
+
+#[test]
+fn cuts(rt: HostRuntime) -> Result<(), Fail> {
+    check(&rt, rt.alloc(), &[MAGIC, FORMAT, NO_BASE], CUTS)
+}
+
+/// Table maps inside a transaction, at byte 198, and rows. Maps are forgotten at the next GTID event.
+const ROWS: &[Case] = &[
+    (&[CUT_MAP], (0, "bad event", 19, 198)),
+    (&[MAP_OF_U], (0, "unknown table", 0, 198)),
+    (&[MAP_OF_ONE], (0, "disagrees", 0, 198)),
+    (&[INSERTS], (0, "unknown table id", 7, 198)),
+    (&[MAP, CUT_INSERT], (0, "bad event", 30, 241)),
+    (&[MAP, CUT_UPDATE], (0, "bad event", 31, 241)),
+    (&[MAP, INSERT_OF_8], (0, "unknown table id", 8, 241)),
+    (&[MAP, INSERT_OF_ONE], (0, "not full", 0, 241)),
+    (&[MAP, CUT_ROW], (0, "bad row", 0, 241)),
+    (&[MAP, INSERTS, CUT_ROW_DELETED], (0, "bad row", 0, 284)),
     (
-        &[Event::Gtid(1), BEGIN, Event::Of(19, b"")],
-        b" bad event at 198: 19",
+        &[MAP, XID, GTID_2, BEGIN, INSERTS],
+        (1, "unknown table id", 7, 354),
     ),
     (
-        &[
-            Event::Gtid(1),
-            BEGIN,
-            Event::Of(19, b"\x07\0\0\0\0\0\x01\0\x04vt_c\0\x01u\0\x01\x03\0\0"),
-        ],
-        b" unknown table at 198: u",
+        &[MAP, XID, GTID_2, BEGIN, MAP, INSERTS, XID],
+        (2, "open", 0, 0),
     ),
-    (
-        &[
-            Event::Gtid(1),
-            BEGIN,
-            Event::Of(19, b"\x07\0\0\0\0\0\x01\0\x04vt_c\0\x01t\0\x01\x03\0\0"),
-        ],
-        b" disagrees at 198: t",
-    ),
-    // rows of table 7
-    (
-        &[Event::Gtid(1), BEGIN, INSERTS],
-        b" unknown table id at 198: 7",
-    ),
-    (
-        &[Event::Gtid(1), BEGIN, MAP, Event::Of(30, b"")],
-        b" bad event at 241: 30",
-    ),
-    (
-        &[
-            Event::Gtid(1),
-            BEGIN,
-            MAP,
-            Event::Of(31, b"\x07\0\0\0\0\0\x01\0\x02\0\x02\x03"),
-        ],
-        b" bad event at 241: 31",
-    ),
-    (
-        &[
-            Event::Gtid(1),
-            BEGIN,
-            MAP,
-            Event::Of(30, b"\x08\0\0\0\0\0\x01\0\x02\0\x02\x03"),
-        ],
-        b" unknown table id at 241: 8",
-    ),
-    (
-        &[
-            Event::Gtid(1),
-            BEGIN,
-            MAP,
-            Event::Of(30, b"\x07\0\0\0\0\0\x01\0\x02\0\x02\x01"),
-        ],
-        b" not full at 241: t",
-    ),
-    (
-        &[
-            Event::Gtid(1),
-            BEGIN,
-            MAP,
-            Event::Of(30, b"\x07\0\0\0\0\0\x01\0\x02\0\x02\x03\0"),
-        ],
-        b" bad row at 241: t",
-    ),
-    (
-        &[
-            Event::Gtid(1),
-            BEGIN,
-            MAP,
-            INSERTS,
-            Event::Of(32, b"\x07\0\0\0\0\0\x01\0\x02\0\x02\x03\0"),
-        ],
-        b" bad row at 284: t",
-    ),
-    (
-        &[
-            Event::Gtid(1),
-            BEGIN,
-            MAP,
-            Event::Of(
-                31,
-                b"\x07\0\0\0\0\0\x01\0\x02\0\x02\x03\x03\x02\x05\0\0\0\x02\x06\0\0\0",
-            ),
-            XID,
-        ],
-        b"1@104 rows t [5][NULL]>[6][NULL].",
-    ),
-    (
-        &[
-            Event::Gtid(1),
-            BEGIN,
-            MAP,
-            Event::Of(32, b"\x07\0\0\0\0\0\x01\0\x02\0\x02\x03\0\x05\0\0\0\x01a"),
-            XID,
-        ],
-        b"1@104 rows t [5][a]>-.",
-    ),
-    // a table that the schema text skips
-    (
-        &[
-            Event::Gtid(1),
-            BEGIN,
-            Event::Of(19, b"\x07\0\0\0\0\0\x01\0\x04vt_c\0\x01s\0\x01\x03\0\0"),
-            INSERTS,
-            XID,
-        ],
-        b"1@104 rows.",
-    ),
-    // table maps are forgotten at the next entry, which begins at byte 268
-    (
-        &[
-            Event::Gtid(1),
-            BEGIN,
-            MAP,
-            XID,
-            Event::Gtid(2),
-            BEGIN,
-            INSERTS,
-        ],
-        b"1@103 rows. unknown table id at 354: 7",
-    ),
-    (
-        &[
-            Event::Gtid(1),
-            BEGIN,
-            MAP,
-            INSERTS,
-            XID,
-            Event::Gtid(2),
-            BEGIN,
-            MAP,
-            INSERTS,
-            XID,
-        ],
-        b"1@104 rows t ->[5][a] t ->[6][NULL].2@109 rows t ->[5][a] t ->[6][NULL].",
-    ),
-    // journals
-    (
-        &[Event::Gtid(1), BEGIN, JOURNAL, Event::Of(30, OURS)],
-        b" not built at 259",
-    ),
-    (
-        &[Event::Gtid(1), BEGIN, JOURNAL, Event::Of(30, OTHERS), XID],
-        b"1@104 rows.",
-    ),
-    (
-        &[Event::Gtid(1), BEGIN, JOURNAL, Event::Of(32, OURS), XID],
-        b"1@104 rows.",
-    ),
+    (&[JOURNAL, OURS], (0, "not built", 0, 259)),
 ];
 
 #[test]
 fn rows(rt: HostRuntime) -> Result<(), Fail> {
-    for case in &ROWS {
-        check(&rt, rt.alloc(), case)?;
+    check(
+        &rt,
+        rt.alloc(),
+        &[MAGIC, FORMAT, NO_BASE, GTID_1, BEGIN],
+        ROWS,
+    )
+}
+
+fn work_of(work: &Work) -> (&'static str, usize) {
+    match work {
+        Work::Ddl(text) => ("ddl", text.as_bytes().len()),
+        Work::Other => ("other", 0),
+        Work::Rows(changes) => ("rows", changes.as_slice().len()),
+        Work::Journal(_) => ("journal", 0),
+    }
+}
+
+/// What the next entry says, its time and the place behind it.
+type Gave = (&'static str, usize, u32, u64);
+
+fn gave(reader: &mut Reader) -> Gave {
+    let Ok(Took::Entry { entry, end, .. }) = reader.next_entry() else {
+        return ("none", 0, 0, 0);
+    };
+    let (name, size) = work_of(&entry.work);
+    (name, size, entry.time, end)
+}
+
+/// Entries behind a base, from byte 112 on: a statement with the length of its text, or the number of
+/// the changes of a transaction; the time of the last event, and the place behind it.
+const ENTRIES: &[(&[&[u8]], Gave)] = &[
+    (&[GTID_1, DROP_T], ("ddl", 12, 100, 205)),
+    (&[GTID_1, ROTATE, DROP_T], ("ddl", 12, 100, 224)),
+    (&[GTID_1, DROP_OTHERS], ("other", 0, 0, 205)),
+    (&[GTID_1, COMMIT], ("other", 0, 103, 199)),
+    (&[GTID_1, BEGIN, COMMIT], ("rows", 0, 103, 241)),
+    (&[GTID_1, BEGIN, XID], ("rows", 0, 104, 225)),
+    (&[GTID_1, BEGIN, LONG_XID], ("rows", 0, 0, 229)),
+    (
+        &[GTID_1, BEGIN, STOP, SAVEPOINT, IGNORABLE, XID],
+        ("rows", 0, 104, 311),
+    ),
+];
+
+/// The same of changes.
+const CHANGES: &[(&[&[u8]], Gave)] = &[
+    (&[GTID_1, BEGIN, MAP, XID], ("rows", 0, 104, 268)),
+    (&[GTID_1, BEGIN, MAP, INSERTS, XID], ("rows", 2, 104, 311)),
+    (
+        &[GTID_1, BEGIN, MAP, SAVEPOINT, INSERTS, COMMIT],
+        ("rows", 2, 103, 375),
+    ),
+    (
+        &[GTID_1, BEGIN, MAP, INSERTS, INSERTS, XID],
+        ("rows", 4, 104, 354),
+    ),
+    (&[GTID_1, BEGIN, MAP, UPDATE, XID], ("rows", 1, 104, 310)),
+    (&[GTID_1, BEGIN, MAP, DELETE, XID], ("rows", 1, 104, 306)),
+    (
+        &[GTID_1, BEGIN, MAP_OF_S, INSERTS, XID],
+        ("rows", 0, 104, 308),
+    ),
+    (
+        &[GTID_1, BEGIN, JOURNAL, OTHERS, XID],
+        ("rows", 0, 104, 333),
+    ),
+    (
+        &[GTID_1, BEGIN, JOURNAL, OURS_DELETED, XID],
+        ("rows", 0, 104, 333),
+    ),
+];
+
+fn check_gave(rt: &impl Abort, alloc: Global, cases: &[(&[&[u8]], Gave)]) -> Result<(), Fail> {
+    for (events, wanted) in cases {
+        let mut reader = reader(alloc)?;
+        feed_all(&mut reader, &[MAGIC, FORMAT, NO_BASE])?;
+        feed_all(&mut reader, events)?;
+        assert_eq!(rt; gave(&mut reader), *wanted);
     }
     Ok(())
 }
 
-/// A base of the 1,024 odd numbers up to 2,047, each an interval of its own.
-fn put_odds(log: &mut Vec<u8>) -> Result<(), AllocError> {
-    put_head(log, 3, 35, 0, 16_416)?;
-    log.extend_from_slice(
-        b"\x01\0\0\0\0\0\0\0\0\0\0\0\0\0\0\0\0\0\0\0\0\0\0\x01\0\x04\0\0\0\0\0\0",
-    )?;
+#[test]
+fn entries(rt: HostRuntime) -> Result<(), Fail> {
+    check_gave(&rt, rt.alloc(), ENTRIES)?;
+    check_gave(&rt, rt.alloc(), CHANGES)
+}
+
+/// Statements in the log of a shard of the keyspace c, by their schema and their text.
+const STATEMENTS: &[(&[u8], &[u8], StatementKind)] = &[
+    (b"vt_c", b"create table t (id int)", StatementKind::Ddl),
+    (b"vt_c", b"Alter\ttable t add x int", StatementKind::Ddl),
+    (b"vt_c", b"truncate t", StatementKind::Ddl),
+    (b"vt_c", b"RENAME table t to s", StatementKind::Ddl),
+    (
+        b"vt_c",
+        b" \t\r\n/* a */ /*b*/drop table t",
+        StatementKind::Ddl,
+    ),
+    (b"vt_c", b"drop;", StatementKind::Ddl),
+    (b"vt_d", b"create table t (id int)", StatementKind::Other),
+    (b"", b"create table vt_c.t (id int)", StatementKind::Other),
+    (b"vt_c", b"/*!40000 drop table t */", StatementKind::Other),
+    (b"vt_c", b"/* drop table t", StatementKind::Other),
+    (b"vt_c", b"/*/ drop table t", StatementKind::Other),
+];
+
+const OTHER_WORDS: &[(&[u8], &[u8], StatementKind)] = &[
+    (b"vt_c", b"dropped", StatementKind::Other),
+    (b"vt_c", b"drop_t", StatementKind::Other),
+    (b"vt_c", b"grant all", StatementKind::Other),
+    (b"vt_c", b"", StatementKind::Other),
+    (b"vt_c", b"begin", StatementKind::Begin),
+    (b"vt_c", b"commit", StatementKind::Commit),
+    (b"vt_c", b"savepoint s", StatementKind::Savepoint),
+    (b"vt_c", b"xa start 'x'", StatementKind::Xa),
+    (b"", b"XA commit 'x'", StatementKind::Xa),
+];
+
+fn check_kinds(rt: &impl Abort, cases: &[(&[u8], &[u8], StatementKind)]) {
+    for (schema, text, wanted) in cases {
+        assert_eq!(rt; kind_of(schema, text, b"c"), *wanted);
+    }
+}
+
+#[test]
+fn statements(rt: HostRuntime) {
+    check_kinds(&rt, STATEMENTS);
+    check_kinds(&rt, OTHER_WORDS);
+}
+
+/// The head of a base of 1,024 intervals, and the parts before the intervals.
+const ODDS: &[u8] = b"\0\0\0\0\x23\0\0\0\0\x33\x40\0\0\0\0\0\0\0\0\
+    \x01\0\0\0\0\0\0\0\0\0\0\0\0\0\0\0\0\0\0\0\0\0\0\x01\0\x04\0\0\0\0\0\0";
+
+/// Feeds a base of the odd numbers up to 2,047, each an interval of its own.
+fn feed_odds(reader: &mut Reader) -> Result<(), OutOfMemory> {
+    reader.feed(ODDS)?;
     for pair in 0u64..1024 {
-        log.extend_from_slice(&(2 * pair + 1).to_le_bytes())?;
-        log.extend_from_slice(&(2 * pair + 2).to_le_bytes())?;
+        reader.feed(&(2 * pair + 1).to_le_bytes())?;
+        reader.feed(&(2 * pair + 2).to_le_bytes())?;
     }
     Ok(())
 }
 
 /// A number that joins two intervals, and two that don't.
-const SCATTERED: &[Event] = &[
-    Event::Gtid(2),
-    DROP_T,
-    Event::Gtid(5000),
-    DROP_T,
-    Event::Gtid(7000),
-];
-
 #[test]
 fn too_many_intervals(rt: HostRuntime) -> Result<(), Fail> {
-    let mut log = Vec::new(rt.alloc());
-    put_events(&mut log, 1, &[MAGIC, FORMAT])?;
-    put_odds(&mut log)?;
-    put_events(&mut log, 100, SCATTERED)?;
     let mut reader = reader(rt.alloc())?;
-    reader.feed(log.as_slice())?;
-    let text = told(rt.alloc(), &mut reader)?;
-    let wanted = b"2@101 ddl drop table t.5000@103 ddl drop table t. too many intervals at 16706";
-    assert_eq!(rt; text.as_slice(), wanted.as_slice());
+    feed_all(&mut reader, &[MAGIC, FORMAT])?;
+    feed_odds(&mut reader)?;
+    feed_all(&mut reader, &[GTID_2, DROP_T, GTID_5000, DROP_T, GTID_7000])?;
+    assert_eq!(rt; told(&mut reader), (5000, "too many intervals", 0, 16_706));
     Ok(())
 }
-
-/// An event of 19 bytes.
-const STOP: &[u8] = b"\0\0\0\0\x03\0\0\0\0\x13\0\0\0\0\0\0\0\0\0";
 
 /// It ends at byte 2^62, and one byte behind it.
 #[test]
@@ -704,16 +425,6 @@ fn ends_by_the_last_place(rt: HostRuntime) {
     let fault = progress.head_fault(STOP, 4_611_686_018_427_387_886);
     assert_eq!(rt; fault, Some(Why::TooLarge { bytes: 19 }));
 }
-
-const TWO_DROPS: &[Event] = &[
-    MAGIC,
-    FORMAT,
-    NO_BASE,
-    Event::Gtid(1),
-    DROP_T,
-    Event::Gtid(2),
-    DROP_S,
-];
 
 /// Whether the next entry is the one so numbered, at this time and between these places.
 fn gives(reader: &mut Reader, number: u64, when: u32, from: u64, to: u64) -> bool {
@@ -729,22 +440,24 @@ fn goes_on(reader: &mut Reader, byte: u8, fed: usize) -> bool {
         return false;
     }
     let given = match fed {
-        205 => gives(reader, 1, 102, 112, 205),
-        298 => gives(reader, 2, 104, 205, 298),
+        205 => gives(reader, 1, 100, 112, 205),
+        298 => gives(reader, 2, 101, 205, 298),
         _ => true,
     };
     given && matches!(reader.next_entry(), Ok(Took::More)) && reader.held() < 81
 }
 
+const TWO_DROPS: &[&[u8]] = &[MAGIC, FORMAT, NO_BASE, GTID_1, DROP_T, GTID_2, DROP_S];
+
 #[test]
 fn entries_byte_by_byte(rt: HostRuntime) -> Result<(), Fail> {
-    let mut log = Vec::new(rt.alloc());
-    put_events(&mut log, 98, TWO_DROPS)?;
     let mut reader = reader(rt.alloc())?;
     let mut fed = 0usize;
-    for byte in log.as_slice() {
-        fed = fed.saturating_add(1);
-        assert!(rt; goes_on(&mut reader, *byte, fed));
+    for event in TWO_DROPS {
+        for byte in *event {
+            fed = fed.saturating_add(1);
+            assert!(rt; goes_on(&mut reader, *byte, fed));
+        }
     }
     assert_eq!(rt; (fed, reader.held()), (298, 0));
     law_no_journals();
@@ -755,14 +468,10 @@ fn entries_byte_by_byte(rt: HostRuntime) -> Result<(), Fail> {
 /// A fault stays, whatever bytes come.
 #[test]
 fn tells_a_fault_for_good(rt: HostRuntime) -> Result<(), Fail> {
-    let mut log = Vec::new(rt.alloc());
-    put_events(&mut log, 1, &[MAGIC, FORMAT, NO_BASE, XID])?;
     let mut reader = reader(rt.alloc())?;
-    reader.feed(log.as_slice())?;
-    for _ in 0..2 {
-        let text = told(rt.alloc(), &mut reader)?;
-        assert_eq!(rt; text.as_slice(), b" out of order at 112: 16".as_slice());
-        reader.feed(&[0; 40])?;
-    }
+    feed_all(&mut reader, &[MAGIC, FORMAT, NO_BASE, XID])?;
+    assert_eq!(rt; told(&mut reader), (0, "out of order", 16, 112));
+    feed_all(&mut reader, &[GTID_1, DROP_T])?;
+    assert_eq!(rt; told(&mut reader), (0, "out of order", 16, 112));
     Ok(())
 }
