@@ -19,6 +19,13 @@ fn reader(alloc: Global) -> Result<Reader, Fail> {
     Ok(Reader::new(alloc, &schema, b"c")?)
 }
 
+/// What a log begins with, without a base and with an empty one; and an entry that is open behind it.
+const START: &[&[u8]] = &[MAGIC, FORMAT];
+
+const FRONT: &[&[u8]] = &[MAGIC, FORMAT, NO_BASE];
+
+const OPEN: &[&[u8]] = &[MAGIC, FORMAT, NO_BASE, GTID_1, BEGIN];
+
 fn feed_all(reader: &mut Reader, events: &[&[u8]]) -> Result<(), OutOfMemory> {
     for event in events {
         reader.feed(event)?;
@@ -74,16 +81,20 @@ fn told(reader: &mut Reader) -> Told {
     (last, "more entries", 0, 0)
 }
 
+fn told_of(alloc: Global, front: &[&[u8]], events: &[&[u8]]) -> Result<Told, Fail> {
+    let mut reader = reader(alloc)?;
+    feed_all(&mut reader, front)?;
+    feed_all(&mut reader, events)?;
+    Ok(told(&mut reader))
+}
+
 /// Events of a log, and what a reader tells of it.
 type Case = (&'static [&'static [u8]], Told);
 
 /// Checks logs that begin with the same events.
 fn check(rt: &impl Abort, alloc: Global, front: &[&[u8]], cases: &[Case]) -> Result<(), Fail> {
     for (events, wanted) in cases {
-        let mut reader = reader(alloc)?;
-        feed_all(&mut reader, front)?;
-        feed_all(&mut reader, events)?;
-        assert_eq!(rt; told(&mut reader), *wanted);
+        assert_eq!(rt; told_of(alloc, front, events)?, *wanted);
     }
     Ok(())
 }
@@ -140,7 +151,7 @@ const BASES: &[Case] = &[
 
 #[test]
 fn bases(rt: HostRuntime) -> Result<(), Fail> {
-    check(&rt, rt.alloc(), &[MAGIC, FORMAT], BASES)
+    check(&rt, rt.alloc(), START, BASES)
 }
 
 /// Events behind the format description, and how many intervals the base has, once it is known.
@@ -155,20 +166,20 @@ const INTERVALS: &[(&[&[u8]], Option<usize>)] = &[
     (&[CUT_BASE], Some(0)),
 ];
 
-fn intervals_of(reader: &Reader) -> Option<usize> {
+fn intervals_of(alloc: Global, events: &[&[u8]]) -> Result<Option<usize>, Fail> {
+    let mut reader = reader(alloc)?;
+    feed_all(&mut reader, START)?;
+    feed_all(&mut reader, events)?;
     match reader.base() {
-        Some(base) => Some(base.intervals()),
-        None => None,
+        Some(base) => Ok(Some(base.intervals())),
+        None => Ok(None),
     }
 }
 
 #[test]
 fn intervals_of_bases(rt: HostRuntime) -> Result<(), Fail> {
     for (events, wanted) in INTERVALS {
-        let mut reader = reader(rt.alloc())?;
-        feed_all(&mut reader, &[MAGIC, FORMAT])?;
-        feed_all(&mut reader, events)?;
-        assert_eq!(rt; intervals_of(&reader), *wanted);
+        assert_eq!(rt; intervals_of(rt.alloc(), events)?, *wanted);
     }
     Ok(())
 }
@@ -207,13 +218,8 @@ const INSIDE: &[Case] = &[
 
 #[test]
 fn orders(rt: HostRuntime) -> Result<(), Fail> {
-    check(&rt, rt.alloc(), &[MAGIC, FORMAT, NO_BASE], OUTSIDE)?;
-    check(
-        &rt,
-        rt.alloc(),
-        &[MAGIC, FORMAT, NO_BASE, GTID_1, BEGIN],
-        INSIDE,
-    )
+    check(&rt, rt.alloc(), FRONT, OUTSIDE)?;
+    check(&rt, rt.alloc(), OPEN, INSIDE)
 }
 
 /// Logs that end inside an entry, and events as long as may be. What is passed over counts alone.
@@ -231,7 +237,7 @@ const CUTS: &[Case] = &[
 
 #[test]
 fn cuts(rt: HostRuntime) -> Result<(), Fail> {
-    check(&rt, rt.alloc(), &[MAGIC, FORMAT, NO_BASE], CUTS)
+    check(&rt, rt.alloc(), FRONT, CUTS)
 }
 
 /// Table maps inside a transaction, at byte 198, and rows. Maps are forgotten at the next GTID event.
@@ -259,12 +265,7 @@ const ROWS: &[Case] = &[
 
 #[test]
 fn rows(rt: HostRuntime) -> Result<(), Fail> {
-    check(
-        &rt,
-        rt.alloc(),
-        &[MAGIC, FORMAT, NO_BASE, GTID_1, BEGIN],
-        ROWS,
-    )
+    check(&rt, rt.alloc(), OPEN, ROWS)
 }
 
 fn work_of(work: &Work) -> (&'static str, usize) {
@@ -285,6 +286,13 @@ fn gave(reader: &mut Reader) -> Gave {
     };
     let (name, size) = work_of(&entry.work);
     (name, size, entry.time, end)
+}
+
+fn gave_of(alloc: Global, events: &[&[u8]]) -> Result<Gave, Fail> {
+    let mut reader = reader(alloc)?;
+    feed_all(&mut reader, FRONT)?;
+    feed_all(&mut reader, events)?;
+    Ok(gave(&mut reader))
 }
 
 /// Entries behind a base, from byte 112 on: a statement with the length of its text, or the number of
@@ -333,10 +341,7 @@ const CHANGES: &[(&[&[u8]], Gave)] = &[
 
 fn check_gave(rt: &impl Abort, alloc: Global, cases: &[(&[&[u8]], Gave)]) -> Result<(), Fail> {
     for (events, wanted) in cases {
-        let mut reader = reader(alloc)?;
-        feed_all(&mut reader, &[MAGIC, FORMAT, NO_BASE])?;
-        feed_all(&mut reader, events)?;
-        assert_eq!(rt; gave(&mut reader), *wanted);
+        assert_eq!(rt; gave_of(alloc, events)?, *wanted);
     }
     Ok(())
 }
@@ -405,25 +410,33 @@ fn feed_odds(reader: &mut Reader) -> Result<(), OutOfMemory> {
 }
 
 /// A number that joins two intervals, and two that don't.
+const SCATTERED: &[&[u8]] = &[GTID_2, DROP_T, GTID_5000, DROP_T, GTID_7000];
+
 #[test]
 fn too_many_intervals(rt: HostRuntime) -> Result<(), Fail> {
     let mut reader = reader(rt.alloc())?;
-    feed_all(&mut reader, &[MAGIC, FORMAT])?;
+    feed_all(&mut reader, START)?;
     feed_odds(&mut reader)?;
-    feed_all(&mut reader, &[GTID_2, DROP_T, GTID_5000, DROP_T, GTID_7000])?;
+    feed_all(&mut reader, SCATTERED)?;
     assert_eq!(rt; told(&mut reader), (5000, "too many intervals", 0, 16_706));
     Ok(())
 }
 
-/// It ends at byte 2^62, and one byte behind it.
+/// The place where an event of 19 bytes begins that ends at byte 2^62.
+const LAST: usize = 4_611_686_018_427_387_885;
+
+fn is_too_large(progress: &Progress, at: usize) -> bool {
+    let fault = progress.head_fault(STOP, at);
+    matches!(fault, Some(Why::TooLarge { bytes: 19 }))
+}
+
 #[test]
 fn ends_by_the_last_place(rt: HostRuntime) {
     let progress = Progress::new(rt.alloc());
-    assert!(rt; front_event(STOP, 4_611_686_018_427_387_885).is_some());
-    assert_eq!(rt; progress.head_fault(STOP, 4_611_686_018_427_387_885), None);
-    assert!(rt; front_event(STOP, 4_611_686_018_427_387_886).is_none());
-    let fault = progress.head_fault(STOP, 4_611_686_018_427_387_886);
-    assert_eq!(rt; fault, Some(Why::TooLarge { bytes: 19 }));
+    assert!(rt; front_event(STOP, LAST).is_some());
+    assert!(rt; !is_too_large(&progress, LAST));
+    assert!(rt; front_event(STOP, LAST + 1).is_none());
+    assert!(rt; is_too_large(&progress, LAST + 1));
 }
 
 /// Whether the next entry is the one so numbered, at this time and between these places.
@@ -449,17 +462,27 @@ fn goes_on(reader: &mut Reader, byte: u8, fed: usize) -> bool {
 
 const TWO_DROPS: &[&[u8]] = &[MAGIC, FORMAT, NO_BASE, GTID_1, DROP_T, GTID_2, DROP_S];
 
+/// Feeds an event that begins at this place byte by byte; the place up to which the answers were right.
+fn feed_bytes(reader: &mut Reader, event: &[u8], from: usize) -> usize {
+    let mut place = from;
+    for byte in event {
+        let fed = place.saturating_add(1);
+        if !goes_on(reader, *byte, fed) {
+            return place;
+        }
+        place = fed;
+    }
+    place
+}
+
 #[test]
 fn entries_byte_by_byte(rt: HostRuntime) -> Result<(), Fail> {
     let mut reader = reader(rt.alloc())?;
-    let mut fed = 0usize;
+    let mut place = 0;
     for event in TWO_DROPS {
-        for byte in *event {
-            fed = fed.saturating_add(1);
-            assert!(rt; goes_on(&mut reader, *byte, fed));
-        }
+        place = feed_bytes(&mut reader, event, place);
     }
-    assert_eq!(rt; (fed, reader.held()), (298, 0));
+    assert_eq!(rt; (place, reader.held()), (298, 0));
     law_no_journals();
     law_part();
     Ok(())
@@ -469,9 +492,10 @@ fn entries_byte_by_byte(rt: HostRuntime) -> Result<(), Fail> {
 #[test]
 fn tells_a_fault_for_good(rt: HostRuntime) -> Result<(), Fail> {
     let mut reader = reader(rt.alloc())?;
-    feed_all(&mut reader, &[MAGIC, FORMAT, NO_BASE, XID])?;
+    feed_all(&mut reader, FRONT)?;
+    reader.feed(XID)?;
     assert_eq!(rt; told(&mut reader), (0, "out of order", 16, 112));
-    feed_all(&mut reader, &[GTID_1, DROP_T])?;
+    reader.feed(DROP_T)?;
     assert_eq!(rt; told(&mut reader), (0, "out of order", 16, 112));
     Ok(())
 }
