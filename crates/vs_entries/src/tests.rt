@@ -395,33 +395,6 @@ fn statements(rt: HostRuntime) {
     check_kinds(&rt, OTHER_WORDS);
 }
 
-/// The head of a base of 1,024 intervals, and the parts before the intervals.
-const ODDS: &[u8] = b"\0\0\0\0\x23\0\0\0\0\x33\x40\0\0\0\0\0\0\0\0\
-    \x01\0\0\0\0\0\0\0\0\0\0\0\0\0\0\0\0\0\0\0\0\0\0\x01\0\x04\0\0\0\0\0\0";
-
-/// Feeds a base of the odd numbers up to 2,047, each an interval of its own.
-fn feed_odds(reader: &mut Reader) -> Result<(), OutOfMemory> {
-    reader.feed(ODDS)?;
-    for pair in 0u64..1024 {
-        reader.feed(&(2 * pair + 1).to_le_bytes())?;
-        reader.feed(&(2 * pair + 2).to_le_bytes())?;
-    }
-    Ok(())
-}
-
-/// A number that joins two intervals, and two that don't.
-const SCATTERED: &[&[u8]] = &[GTID_2, DROP_T, GTID_5000, DROP_T, GTID_7000];
-
-#[test]
-fn too_many_intervals(rt: HostRuntime) -> Result<(), Fail> {
-    let mut reader = reader(rt.alloc())?;
-    feed_all(&mut reader, START)?;
-    feed_odds(&mut reader)?;
-    feed_all(&mut reader, SCATTERED)?;
-    assert_eq!(rt; told(&mut reader), (5000, "too many intervals", 0, 16_706));
-    Ok(())
-}
-
 /// The place where an event of 19 bytes begins that ends at byte 2^62.
 const LAST: usize = 4_611_686_018_427_387_885;
 
@@ -485,17 +458,5 @@ fn entries_byte_by_byte(rt: HostRuntime) -> Result<(), Fail> {
     assert_eq!(rt; (place, reader.held()), (298, 0));
     law_no_journals();
     law_part();
-    Ok(())
-}
-
-/// A fault stays, whatever bytes come.
-#[test]
-fn tells_a_fault_for_good(rt: HostRuntime) -> Result<(), Fail> {
-    let mut reader = reader(rt.alloc())?;
-    feed_all(&mut reader, FRONT)?;
-    reader.feed(XID)?;
-    assert_eq!(rt; told(&mut reader), (0, "out of order", 16, 112));
-    reader.feed(DROP_T)?;
-    assert_eq!(rt; told(&mut reader), (0, "out of order", 16, 112));
     Ok(())
 }
