@@ -2,8 +2,9 @@
 use Rattle.std.proofs.Common.{◌≡◌, ◌+◌, ◌++◌, ℕ, List, map, refl}
 use Rattle.vs_base.specs.declared.change.Change.{Change}
 use Rattle.vs_gtid.specs.declared.Work.TheVariants.{Rows}
+use Rattle.vs_log.specs.States.{Counted}
 use Rattle.vs_log.specs.States.Counted.{Changed}
-use Rattle.std.specs.Prelude.{◌⊎◌, Result, Ok, Err}
+use Rattle.std.specs.Prelude.{◌⊎◌, IsSomeAnd, Result, Ok, Err}
 use Rattle.std.proofs.Common.{ap, subst, sym, ◌∙◌}
 use Rattle.vs_base.specs.declared.Gtid.{Gtid}
 use Rattle.vs_rows.specs.Rows.{rows_meant}
@@ -14,8 +15,10 @@ use Rattle.vs_rows.specs.declared.refusal.RowRefusal.TheVariants as row
 use Rattle.vs_rows.specs.Tables.{Tables, done, with_map}
 use Rattle.vs_entries.specs.declared.progress.Progress.{Progress}
 use Rattle.vs_entries.specs.declared.refusal.Refusal.{Refusal}
-use Rattle.vs_entries.specs.declared.refusal.Refusal.TheVariants.{Wrong}
-use Rattle.vs_entries.specs.Reading.{Moves, refusal_of, with_rows, with_table_map}
+use Rattle.vs_entries.specs.declared.refusal.Refusal.TheVariants.{Wrong, Memory}
+use Rattle.vs_entries.specs.declared.out.Out.{Out}
+use Rattle.vs_entries.specs.declared.out.Stop.{Stop}
+use Rattle.vs_entries.specs.Reading.{Counts, Moves, MovesTo, StopsBy, refusal_of, with_rows, with_table_map}
 use Rattle.vs_base.specs.declared.Why.TheVariants.{NoFormat}
 use Rattle.vs_log.specs.declared.event.Sort.{Sort}
 use Rattle.vs_log.specs.declared.event.Sort.TheVariants.{AnonymousEvent, PassedOver, FormatEvent, PreviousEvent, GtidEvent, QueryEvent, XidEvent, MapEvent, RowsEvent, ForeignEvent}
@@ -95,3 +98,20 @@ rows_taken adds keyspace s e g bytes maps changes more now kind size is long sai
     ∙ ap (λ w. told s e g bytes maps w) (adds changes more)
     ∙ ap (λ z. Ok (record s { place = place.Inside g (bytes + length_of e) maps (Rows z) })) (sym added)
     ∙ ap (λ z. Ok (record s { place = place.Inside g (bytes + z) maps (Rows now) })) (sym long)
+
+-- ---- what is wrong is left in the `Out`
+
+pub left_out : (told : Refusal) (answer : Stop) (old new : Progress) (out : Out) (meant : Result (State Tables) Why) → StopsBy told out answer → Moves (Err told) old new meant → MovesTo (Err answer) old new out meant
+left_out (Wrong why) answer old new out meant s m =
+    subst (λ z. MovesTo (Err z) old new out meant) (sym s.0) (subst (λ z. IsSomeAnd z (λ w. meant ≡ Err w)) (sym s.1) m.0, m.1)
+left_out Memory answer old new out meant s m = subst (λ z. MovesTo (Err z) old new out meant) (sym s) m
+
+-- a rows event that isn't taken
+pub rows_refused : (keyspace : List ℕ) (s : State Tables) (e : Event) (g : Gtid) (bytes : ℕ) (maps : Tables) (changes : List Change) (told : Refusal) (kind : ℕ) (p : Progress) →
+    kind ≡ kind_of e → Counts (Err told) (counted_by keyspace kind (rows_meant maps kind (body_of e))) → Moves (Err told) p p (with_rows keyspace s e g bytes maps changes)
+rows_refused keyspace s e g bytes maps changes (Wrong why) kind p is said =
+    (ap (λ k. counted_by keyspace k (rows_meant maps k (body_of e)) >>= f) (sym is) ∙ ap (λ r. r >>= f) said, refl)
+  where
+    f : List Counted → Result (State Tables) Why
+    f counted = told s e g bytes maps (more_work (Rows changes) counted)
+rows_refused keyspace s e g bytes maps changes Memory kind p is said = refl

@@ -9,22 +9,24 @@ use Rattle.vs_rows.specs.Tables.{Tables}
 use Rattle.vs_schema.specs.declared.schema.Schema.{Schema}
 use Rattle.vs_log.specs.States.{State}
 use Rattle.vs_log.specs.Events.{IsPart}
-use Rattle.vs_log.specs.Meaning.{log_meant}
+use Rattle.vs_log.specs.Meaning.{has_magic, log_meant}
 use Rattle.vs_log.specs.Steps.{Reaches, next_state}
 use Rattle.vs_log.specs.Table.{Rules}
 use Rattle.vs_entries.specs.Laws.{LogLaws}
 use Rattle.vs_entries.specs.Pieces.{Fed, GivesEntry, log_fed}
 use Rattle.vs_entries.specs.Reading.{is_early, place_of, state_of, with_entries}
 use Rattle.vs_entries.specs.Rules.{rules_of}
-use Rattle.vs_entries.specs.Walks.{IsBack, IsBegunAt, IsFresh, IsOver, IsStuck, IsWalk, KeepsFault, ReadsEnd, Stands, Tells}
-use Rattle.vs_entries.specs.Windows.{Windowed}
+use Rattle.vs_entries.specs.Walks.{IsBack, IsBegunAt, IsEarly, IsFresh, IsOver, IsStuck, IsWalk, KeepsFault, ReadsEnd, Stands, Tells}
+use Rattle.vs_entries.specs.Windows.{TellsMagic, Windowed}
+use Rattle.vs_entries.specs.declared.magic.Magic.{Magic}
+use Rattle.vs_entries.specs.declared.magic.Magic.TheVariants.{Whole, Part, Wrong}
 use Rattle.vs_entries.specs.declared.fault.Fault.{Fault}
 use Rattle.vs_entries.specs.declared.standing.Standing.{Standing}
 use Rattle.vs_entries.specs.declared.standing.Standing.TheVariants.{Front, Between, Named, Inside}
 use Rattle.vs_entries.specs.declared.took.LogRefusal.{LogRefusal}
 use Rattle.vs_entries.specs.declared.took.LogRefusal.TheVariants.{BadLog, Memory}
 use Rattle.vs_entries.specs.declared.walk.Walk.{Walk}
-use Rattle.vs_entries.proofs.WalkLemmas.{IsFront, stands_within, starts, walk_more, walk_new}
+use Rattle.vs_entries.proofs.WalkLemmas.{front_none, front_short, front_starts, stands_within, starts, walk_more, walk_new}
 
 -- ---- a walk that is put back where it began
 
@@ -42,11 +44,8 @@ state_early base base2 known known2 standing maps more changes others b k h =
     ∙ ap (λ z. record { base = base2; entries = []; known = known2; place = z }) (place_early standing maps more changes others h)
 
 -- a walk that is put back where it began
-pub put_back : Walk → Walk → Walk
-put_back first now = record { at = first.at; begun = first.begun; given = now.given; progress = record now.progress { standing = first.progress.standing } }
-
-pub front_back : (rules : Rules Tables) (bytes : List ℕ) (first now : Walk) → is_early first.progress.standing ≡ true → first.given ≡ 0 → IsFront rules bytes first now → IsBack first (put_back first now)
-unfolding put_back
+pub front_back : (rules : Rules Tables) (bytes : List ℕ) (first now : Walk) → is_early first.progress.standing ≡ true → first.given ≡ 0 → IsEarly rules bytes first now →
+    IsBack first (record { at = first.at; begun = first.begun; given = now.given; progress = record now.progress { standing = first.progress.standing } })
 front_back rules bytes first now e g f = record {
   at = refl;
   begun = refl;
@@ -84,6 +83,11 @@ walk_back rules bytes old new refused b w = record {
     back (◌⊎◌.inr s) = ◌⊎◌.inr (stands_back rules bytes old new b s)
 
 -- ---- the walk over a window
+
+-- the magic is there to be tested, or was passed
+pub behind_magic : (window : Windowed) (walk : Walk) → (window.from ≡ 0) ⊎ (4 < walk.at) → TellsMagic window Whole → ((has_magic window.bytes ≡ true) × (4 ≤ length window.bytes)) ⊎ (4 < walk.at)
+behind_magic window walk (◌⊎◌.inl z) m = ◌⊎◌.inl (m z)
+behind_magic window walk (◌⊎◌.inr l) m = ◌⊎◌.inr l
 
 -- what a reader lets go lies before the walk, and behind the magic
 pub over_room : (rules : Rules Tables) (old new : Windowed) (walk : Walk) (refused : Bool) → IsOver rules old walk refused → new.bytes ≡ old.bytes → new.from ≤ walk.at → (walk.at ≤ 4 → new.from ≡ old.from) → IsOver rules new walk refused
@@ -148,6 +152,20 @@ short_part at bytes h = ◌⊎◌.inl (omega (arith, length-drop at bytes, h))
 pub past_magic : (from at : ℕ) → (from ≡ 0) ⊎ (4 < at) → (from ≡ 0 → ⊥) → 4 < at
 past_magic from at (◌⊎◌.inl z) h = absurd (h z)
 past_magic from at (◌⊎◌.inr l) h = l
+
+-- ---- the magic
+
+-- a walk behind the magic goes on
+pub magic_starts : (laws : LogLaws) (rules : Rules Tables) (window : Windowed) (walk : Walk) → IsFresh walk ⊎ Stands rules window.bytes walk → is_early walk.progress.standing ≡ true → walk.given ≡ 0 →
+    (window.from ≡ 0) ⊎ (4 < walk.at) → TellsMagic window Whole → IsEarly rules window.bytes walk walk
+magic_starts laws rules window walk s e g begun m = front_starts laws rules window.bytes walk s e g (behind_magic window walk begun m)
+
+-- where the magic is wrong, or isn't whole, nothing is known
+pub magic_wanting : (laws : LogLaws) (rules : Rules Tables) (window : Windowed) (walk : Walk) (magic : Magic) → IsFresh walk ⊎ Stands rules window.bytes walk → walk.given ≡ 0 →
+    TellsMagic window magic → (magic ≡ Whole → ⊥) → IsWalk rules window.bytes walk false
+magic_wanting laws rules window walk Whole s g m other = absurd (other refl)
+magic_wanting laws rules window walk Part s g m other = front_short laws rules window.bytes walk s g m.1
+magic_wanting laws rules window walk Wrong s g m other = front_none laws rules window.bytes walk s g m
 
 -- ---- a fault that is kept
 

@@ -20,7 +20,7 @@ use Rattle.vs_log.specs.Table.{Rules, step}
 use Rattle.vs_entries.specs.Laws.{LogLaws}
 use Rattle.vs_entries.specs.Pieces.{IsBehind}
 use Rattle.vs_entries.specs.Reading.{IsFrontEvent, is_early, is_refused, place_of, state_of, with_entries}
-use Rattle.vs_entries.specs.Walks.{IsBegunAt, IsFresh, IsLeft, IsMoved, IsStuck, IsWalk, ReadsEnd, ReadsNext, Stands, begun_after}
+use Rattle.vs_entries.specs.Walks.{IsBegunAt, IsEarly, IsFresh, IsLeft, IsMoved, IsStuck, IsWalk, ReadsEnd, ReadsNext, Stands, begun_after}
 use Rattle.vs_entries.specs.declared.standing.Standing.{Standing}
 use Rattle.vs_entries.specs.declared.standing.Standing.TheVariants.{Front, Between, Named, Inside}
 use Rattle.vs_entries.specs.declared.walk.Walk.{Walk}
@@ -393,14 +393,6 @@ comes_to_nothing laws rules bytes old now new g same =
 
 -- ---- a walk up to the first event that tells of the base
 
-pub record IsFront (rules : Rules Tables) (bytes : List ℕ) (first walk : Walk) : Type 0 where
-  pub stands : Stands rules bytes walk
-  pub early : is_early walk.progress.standing ≡ true
-  pub given : walk.given ≡ 0
-  pub later : first.at ≤ walk.at
-  pub base : walk.progress.base ≡ first.progress.base
-  pub known : walk.progress.known ≡ first.progress.known
-
 unknown_there : (standing : Standing) (maps : Tables) (changes : List Change) → is_early standing ≡ true → is_base_known (place_of standing maps changes) None ≡ false
 unknown_there Front maps changes h = refl
 unknown_there (Between true) maps changes h = refl
@@ -414,7 +406,7 @@ sets_stay : (laws : LogLaws) (rules : Rules Tables) (bytes : List ℕ) (old new 
 sets_stay laws rules bytes old new m h =
     (laws.steps rules).early old.at (state_of old.progress) (with_entries [] (state_of new.progress)) (drop old.at bytes) m.next (unknown_there new.progress.standing new.progress.maps new.progress.changes h)
 
-pub front_on : (laws : LogLaws) (rules : Rules Tables) (bytes : List ℕ) (first old new : Walk) → IsFront rules bytes first old → IsMoved rules bytes old new [] → is_early new.progress.standing ≡ true → IsFront rules bytes first new
+pub front_on : (laws : LogLaws) (rules : Rules Tables) (bytes : List ℕ) (first old new : Walk) → IsEarly rules bytes first old → IsMoved rules bytes old new [] → is_early new.progress.standing ≡ true → IsEarly rules bytes first new
 front_on laws rules bytes first old new f m h =
     let k = sets_stay laws rules bytes old new m h in
     record {
@@ -426,7 +418,7 @@ front_on laws rules bytes first old new f m h =
       known = k.1 ∙ f.known;
     }
 
-pub front_ends : (laws : LogLaws) (rules : Rules Tables) (bytes : List ℕ) (first old new : Walk) → IsFront rules bytes first old → IsMoved rules bytes old new [] → is_early new.progress.standing ≡ false → IsWalk rules bytes new false
+pub front_ends : (laws : LogLaws) (rules : Rules Tables) (bytes : List ℕ) (first old new : Walk) → IsEarly rules bytes first old → IsMoved rules bytes old new [] → is_early new.progress.standing ≡ false → IsWalk rules bytes new false
 front_ends laws rules bytes first old new f m h = record {
   stands = ◌⊎◌.inr (stands_on laws rules bytes old new [] (omega arith) f.stands m);
   early = λ k. let e : true ≡ false = sym k ∙ h in absurd (cc);
@@ -436,7 +428,7 @@ front_ends laws rules bytes first old new f m h = record {
 pub front_unmagic : (rules : Rules Tables) (bytes : List ℕ) (walk : Walk) → IsFresh walk ⊎ Stands rules bytes walk → walk.given ≡ 0 → knows_base rules bytes ≡ false → IsWalk rules bytes walk false
 front_unmagic rules bytes walk s g k = record { stands = s; early = λ h. (g, k); stuck = λ h. absurd (cc) }
 
-pub front_stops : (laws : LogLaws) (rules : Rules Tables) (bytes : List ℕ) (first walk : Walk) (why : Option Why) → IsFront rules bytes first walk → next_state rules walk.at (state_of walk.progress) (drop walk.at bytes) ≡ Err why →
+pub front_stops : (laws : LogLaws) (rules : Rules Tables) (bytes : List ℕ) (first walk : Walk) (why : Option Why) → IsEarly rules bytes first walk → next_state rules walk.at (state_of walk.progress) (drop walk.at bytes) ≡ Err why →
     IsWalk rules bytes walk (is_refused walk.progress.standing why)
 front_stops laws rules bytes first walk why f h = record {
   stands = ◌⊎◌.inr f.stands;
@@ -468,7 +460,7 @@ starts laws rules bytes walk (◌⊎◌.inl f) (◌⊎◌.inr l) = absurd (omega
 starts laws rules bytes walk (◌⊎◌.inr s) k = s
 
 pub front_starts : (laws : LogLaws) (rules : Rules Tables) (bytes : List ℕ) (walk : Walk) → IsFresh walk ⊎ Stands rules bytes walk → is_early walk.progress.standing ≡ true → walk.given ≡ 0 →
-    ((has_magic bytes ≡ true) × (4 ≤ length bytes)) ⊎ (4 < walk.at) → IsFront rules bytes walk walk
+    ((has_magic bytes ≡ true) × (4 ≤ length bytes)) ⊎ (4 < walk.at) → IsEarly rules bytes walk walk
 front_starts laws rules bytes walk s e g k = record { stands = starts laws rules bytes walk s k; early = e; given = g; later = omega arith; base = refl; known = refl }
 
 pub front_none : (laws : LogLaws) (rules : Rules Tables) (bytes : List ℕ) (walk : Walk) → IsFresh walk ⊎ Stands rules bytes walk → walk.given ≡ 0 → has_magic bytes ≡ false → IsWalk rules bytes walk false
@@ -480,7 +472,7 @@ front_short laws rules bytes walk s g l = go (has_magic bytes) refl where
   go true h = front_unmagic rules bytes walk s g ((laws.steps rules).short bytes h l).1
   go false h = front_none laws rules bytes walk s g h
 
-pub front_stopped : (laws : LogLaws) (rules : Rules Tables) (bytes : List ℕ) (first old new : Walk) (why : Option Why) (refused : Bool) → IsFront rules bytes first old →
+pub front_stopped : (laws : LogLaws) (rules : Rules Tables) (bytes : List ℕ) (first old new : Walk) (why : Option Why) (refused : Bool) → IsEarly rules bytes first old →
     next_state rules old.at (state_of old.progress) (drop old.at bytes) ≡ Err why → new ≡ old → refused ≡ is_refused new.progress.standing why → IsWalk rules bytes new refused
 front_stopped laws rules bytes first old new why refused f h same r =
     subst (λ z. IsWalk rules bytes new z) (sym r) (subst (λ z. IsWalk rules bytes z (is_refused z.progress.standing why)) (sym same) (front_stops laws rules bytes first old why f h))

@@ -1,9 +1,9 @@
 -- How what a reader has taken stands for a state of a log's table, and what its answers say.
-use Rattle.std.specs.Prelude.{◌≡◌, ◌≤◌, ◌+◌, ℕ, nat_lt, Bool, true, false, is_some, IsSomeAnd, if◌then◌else◌, List, [], ◌∷◌, length, map, take, Option, Result, Ok, Err}
+use Rattle.std.specs.Prelude.{◌≡◌, ◌≤◌, ◌+◌, ℕ, nat_lt, Bool, true, false, is_some, IsSomeAnd, if◌then◌else◌, List, [], ◌∷◌, length, map, take, Option, Some, Result, Ok, Err}
 use Rattle.vs_base.specs.declared.change.Change.{Change}
 use Rattle.vs_base.specs.declared.Gtid.{Gtid}
 use Rattle.vs_base.specs.declared.Why.{Why}
-use Rattle.vs_base.specs.declared.Why.TheVariants.{BadEvent}
+use Rattle.vs_base.specs.declared.Why.TheVariants.{Anonymous, BadEvent, BadOrder, Unsupported}
 use Rattle.vs_gtid.specs.declared.Entry.{Entry}
 use Rattle.vs_gtid.specs.declared.Work.TheVariants.{Rows}
 use Rattle.vs_gtid.specs.Block.{block_of}
@@ -19,6 +19,8 @@ use Rattle.vs_log.specs.States.{Place as place}
 use Rattle.vs_log.specs.States.{State}
 use Rattle.vs_binlog.specs.Heads.{Event, body_of, kind_of, length_of}
 use Rattle.vs_log.specs.Events.{is_held, last_place}
+use Rattle.vs_log.specs.declared.event.Sort.{Sort}
+use Rattle.vs_log.specs.declared.event.Sort.TheVariants.{AnonymousEvent, ForeignEvent}
 use Rattle.vs_log.specs.Table.{Rules, with_base, ended, new_gtid, named, first_query, later_query, more_work, told, ◌>>=◌}
 use Rattle.vs_entries.specs.Queries.{statement_of}
 use Rattle.vs_entries.specs.Rules.{base_of, counted_by, or_why, rules_of, why_of}
@@ -82,6 +84,17 @@ abbrev pub Moves : Result (Unit {0}) Refusal → Progress → Progress → Resul
 Moves (Ok x) old new meant = meant ≡ Ok (state_of new)
 Moves (Err (Wrong why)) old new meant = (meant ≡ Err why) × (new ≡ old)
 Moves (Err Memory) old new meant = new ≡ old
+
+-- what is told of a body that isn't taken is left in the `Out`
+abbrev pub StopsBy : Refusal → Out → Stop → Type 0
+StopsBy (Wrong why) out answer = (answer ≡ stop.Wrong) × (out.why ≡ Some why)
+StopsBy Memory out answer = answer ≡ stop.Memory
+
+-- what is wrong with an event of this kind where none of its sort is taken
+abbrev pub misplaced : Sort → ℕ → Why
+misplaced AnonymousEvent kind = Anonymous
+misplaced ForeignEvent kind = Unsupported kind
+misplaced sort kind = BadOrder kind
 
 -- a schema without tables; the rules of no keyspace, which serve where no rules count
 abbrev pub no_schema : Schema

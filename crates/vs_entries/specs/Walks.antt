@@ -104,6 +104,15 @@ abbrev pub Tells : Fault → Bool → LogRefusal → Bool → Type 0
 Tells fault old (BadLog offset why) new = (offset ≡ fault.offset) × (why ≡ fault.why) × (new ≡ old)
 Tells fault old Memory new = new ≡ true
 
+-- a walk that goes on from a first one, up to the first event that tells of the base: no such event was taken yet
+pub record IsEarly (rules : Rules Tables) (bytes : List ℕ) (first walk : Walk) : Type 0 where
+  pub stands : Stands rules bytes walk
+  pub early : is_early walk.progress.standing ≡ true
+  pub given : walk.given ≡ 0
+  pub later : first.at ≤ walk.at
+  pub base : walk.progress.base ≡ first.progress.base
+  pub known : walk.progress.known ≡ first.progress.known
+
 -- the walk is back where it was
 pub record IsBack (old new : Walk) : Type 0 where
   pub at : new.at ≡ old.at

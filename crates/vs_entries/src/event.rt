@@ -1,7 +1,9 @@
 ghost use Rattle.std.specs.Prelude.{◌≡◌, ◌≤◌, length};
-ghost use Rattle.vs_binlog.specs.Heads.{body_of};
+ghost use Rattle.vs_binlog.specs.Heads.{body_of, kind_of};
 ghost use Rattle.vs_log.specs.Events.{sort, sort_of};
+ghost use Rattle.vs_entries.specs.Reading.{misplaced};
 
+use vs_base::Why;
 use vs_binlog::{HEAD, read_head};
 use vs_log::Sort;
 
@@ -39,5 +41,19 @@ fn sort_by(kind: u8, flags: u16) -> Sort
         30 | 31 | 32 => Sort::RowsEvent,
         _ if (flags / 128) % 2 == 1 => Sort::PassedOver,
         _ => Sort::ForeignEvent,
+    }
+}
+
+/// What is wrong with an event where none of its sort is taken.
+#[inline(never)]
+pub fn misplaced(event: &[u8], sort: Sort) -> Why
+    requires { 19 ≤ length event.now }
+    ensures { result ≡ misplaced sort (kind_of event.now) }
+{
+    let kind = read_head(event).kind;
+    match sort {
+        Sort::AnonymousEvent => Why::Anonymous,
+        Sort::ForeignEvent => Why::Unsupported { kind },
+        _ => Why::BadOrder { kind },
     }
 }

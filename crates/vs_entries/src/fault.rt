@@ -1,5 +1,5 @@
 //! The fault of a log, which is kept once it is found.
-ghost use Rattle.std.specs.Prelude.{◌≡◌, IfOk};
+ghost use Rattle.std.specs.Prelude.{◌≡◌, IfOk, Some};
 ghost use Rattle.vs_entries.specs.Walks.{Tells};
 
 use crate::took::LogRefusal;
@@ -27,6 +27,24 @@ pub fn tell(alloc: Global, fault: &Fault, spent: &mut bool) -> LogRefusal
             LogRefusal::Memory
         }
     }
+}
+
+/// Keeps the fault at a place, and tells it.
+#[inline(never)]
+pub fn keep(
+    alloc: Global,
+    offset: u64,
+    why: Why,
+    kept: &mut Option<Fault>,
+    spent: &mut bool,
+) -> LogRefusal
+    ensures kept { kept.new ≡ Some (record { offset = offset; why = why }) }
+    ensures tells { Tells (record { offset = offset; why = why }) spent.old result spent.new }
+{
+    let fault = Fault { offset, why };
+    let refusal = tell(alloc, &fault, spent);
+    *kept = Some(fault);
+    refusal
 }
 
 fn copy_why(alloc: Global, why: &Why) -> Result<Why, OutOfMemory>

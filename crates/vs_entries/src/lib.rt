@@ -7,10 +7,13 @@
 
 mod body;
 mod event;
+#[cfg(test)]
+mod events_for_tests;
 mod fault;
 mod front;
 mod kind;
 mod laws;
+mod magic;
 mod out;
 mod progress;
 mod query;

@@ -39,7 +39,7 @@ pub struct Out {
 }
 
 impl Out {
-    ghost use Rattle.std.specs.Prelude.{◌≡◌, None};
+    ghost use Rattle.std.specs.Prelude.{◌≡◌, IsSome, None, Some};
 
     pub fn new() -> Out
         ensures { result ≡ record { entry = None; why = None } }
@@ -47,6 +47,19 @@ impl Out {
         Out {
             entry: None,
             why: None,
+        }
+    }
+
+    /// The entry that ended.
+    #[inline(always)]
+    pub fn into_entry(self) -> Entry
+        requires { IsSome self.entry }
+        ensures { self.entry ≡ Some result }
+    {
+        let Out { entry, .. } = self;
+        match entry {
+            Some(entry) => entry,
+            None => unreachable!(),
         }
     }
 }

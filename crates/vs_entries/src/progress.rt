@@ -7,12 +7,11 @@ ghost use Rattle.vs_rows.specs.Tables.{Tables};
 ghost use Rattle.vs_log.specs.Table.{bytes_with, ended, line, size, step};
 
 use crate::body::{format_fault, named_gtid, read_base};
-use crate::event::{body_of, sort_in};
+use crate::event::{body_of, misplaced, sort_in};
 use crate::front::LAST_PLACE;
 use crate::kind::StatementKind;
 use crate::out::{Out, Stop, Turn};
 use crate::query::read_statement;
-use crate::refusal::Refusal;
 use crate::row::{read_rows, refused};
 use crate::standing::Standing;
 use std::alloc::Global;
@@ -59,7 +58,6 @@ impl Progress {
     ghost use Rattle.vs_gtid.specs.declared.entry.Work.TheVariants.{Rows};
     ghost use Rattle.vs_entries.specs.declared.out.Turn.TheVariants.{Goes};
     ghost use Rattle.vs_entries.specs.Reading.{
-      Moves,
       MovesTo,
       TakesTo,
       any_rules,
@@ -217,28 +215,11 @@ impl Progress {
         ensures { MovesTo result self.old self.new out.new (line any_rules (state_of self.old) event.now (Between first) (sort_of event.now)) }
     {
         match sort {
-            Sort::AnonymousEvent => {
-                out.why = Some(Why::Anonymous);
-                Err(Stop::Wrong)
-            }
             Sort::PassedOver => Ok(()),
-            Sort::PreviousEvent if first => match self.take_base(alloc, event) {
-                Ok(()) => Ok(()),
-                Err(Refusal::Wrong(why)) => {
-                    out.why = Some(why);
-                    Err(Stop::Wrong)
-                }
-                Err(Refusal::Memory) => Err(Stop::Memory),
-            },
+            Sort::PreviousEvent if first => self.take_base(alloc, event, out),
             Sort::GtidEvent => self.take_gtid(event, out),
-            Sort::ForeignEvent => {
-                let kind = read_head(event).kind;
-                out.why = Some(Why::Unsupported { kind });
-                Err(Stop::Wrong)
-            }
             _ => {
-                let kind = read_head(event).kind;
-                out.why = Some(Why::BadOrder { kind });
+                out.why = Some(misplaced(event, sort));
                 Err(Stop::Wrong)
             }
         }
@@ -263,20 +244,10 @@ impl Progress {
         ensures { TakesTo result self.old self.new out.new (line (rules_of keyspace.now no_schema) (state_of self.old) event.now (Named gtid bytes) (sort_of event.now)) }
     {
         match sort {
-            Sort::AnonymousEvent => {
-                out.why = Some(Why::Anonymous);
-                Err(Stop::Wrong)
-            }
             Sort::PassedOver => Ok(Turn::Goes),
             Sort::QueryEvent => self.take_query(alloc, event, keyspace, gtid, bytes, out),
-            Sort::ForeignEvent => {
-                let kind = read_head(event).kind;
-                out.why = Some(Why::Unsupported { kind });
-                Err(Stop::Wrong)
-            }
             _ => {
-                let kind = read_head(event).kind;
-                out.why = Some(Why::BadOrder { kind });
+                out.why = Some(misplaced(event, sort));
                 Err(Stop::Wrong)
             }
         }
@@ -302,37 +273,19 @@ impl Progress {
         ensures { TakesTo result self.old self.new out.new (line (rules_of keyspace.now schema.now) (state_of self.old) event.now (Inside gtid bytes self.old.maps (Rows self.old.changes)) (sort_of event.now)) }
     {
         match sort {
-            Sort::AnonymousEvent => {
-                out.why = Some(Why::Anonymous);
-                Err(Stop::Wrong)
-            }
             Sort::PassedOver => Ok(Turn::Goes),
             Sort::QueryEvent => self.take_later_query(alloc, event, keyspace, gtid, bytes, out),
             Sort::XidEvent => self.take_xid(alloc, event, gtid, out),
-            Sort::MapEvent => match self.take_table_map(event, keyspace, schema, gtid, bytes) {
-                Ok(()) => Ok(Turn::Goes),
-                Err(Refusal::Wrong(why)) => {
-                    out.why = Some(why);
-                    Err(Stop::Wrong)
-                }
-                Err(Refusal::Memory) => Err(Stop::Memory),
-            },
-            Sort::RowsEvent => match self.take_rows(alloc, event, keyspace, gtid, bytes) {
-                Ok(()) => Ok(Turn::Goes),
-                Err(Refusal::Wrong(why)) => {
-                    out.why = Some(why);
-                    Err(Stop::Wrong)
-                }
-                Err(Refusal::Memory) => Err(Stop::Memory),
-            },
-            Sort::ForeignEvent => {
-                let kind = read_head(event).kind;
-                out.why = Some(Why::Unsupported { kind });
-                Err(Stop::Wrong)
+            Sort::MapEvent => {
+                self.take_table_map(event, keyspace, schema, gtid, bytes, out)?;
+                Ok(Turn::Goes)
+            }
+            Sort::RowsEvent => {
+                self.take_rows(alloc, event, keyspace, gtid, bytes, out)?;
+                Ok(Turn::Goes)
             }
             _ => {
-                let kind = read_head(event).kind;
-                out.why = Some(Why::BadOrder { kind });
+                out.why = Some(misplaced(event, sort));
                 Err(Stop::Wrong)
             }
         }
@@ -340,11 +293,14 @@ impl Progress {
 
     /// Takes a PREVIOUS_GTIDS event.
     #[inline(never)]
-    fn take_base(&mut self, alloc: Global, event: &[u8]) -> Result<(), Refusal>
+    fn take_base(&mut self, alloc: Global, event: &[u8], out: &mut Out) -> Result<(), Stop>
         requires { 19 ≤ length event.now }
-        ensures { Moves result self.old self.new (with_previous (state_of self.old) event.now) }
+        ensures { MovesTo result self.old self.new out.new (with_previous (state_of self.old) event.now) }
     {
-        let base = read_base(alloc, body_of(event))?;
+        let base = match read_base(alloc, body_of(event)) {
+            Ok(base) => base,
+            Err(refusal) => return Err(refusal.leave_in(out)),
+        };
         let known = base.copy(alloc)?;
         self.base = base;
         self.known = known;
@@ -490,10 +446,11 @@ impl Progress {
         schema: &Schema,
         gtid: Gtid,
         bytes: u32,
-    ) -> Result<(), Refusal>
+        out: &mut Out,
+    ) -> Result<(), Stop>
         requires head { 19 ≤ length event.now }
         requires size { bytes + length_of event.now ≤ limit }
-        ensures { Moves result self.old self.new (with_table_map keyspace.now schema.now (state_of self.old) event.now gtid bytes self.old.maps self.old.changes) }
+        ensures { MovesTo result self.old self.new out.new (with_table_map keyspace.now schema.now (state_of self.old) event.now gtid bytes self.old.maps self.old.changes) }
     {
         match self.maps.put(body_of(event), schema, keyspace) {
             Ok(()) => {
@@ -503,7 +460,7 @@ impl Progress {
                 };
                 Ok(())
             }
-            Err(refusal) => Err(refused(19, refusal)),
+            Err(refusal) => Err(refused(19, refusal).leave_in(out)),
         }
     }
 
@@ -515,14 +472,18 @@ impl Progress {
         keyspace: &[u8],
         gtid: Gtid,
         bytes: u32,
-    ) -> Result<(), Refusal>
+        out: &mut Out,
+    ) -> Result<(), Stop>
         requires head { 19 ≤ length event.now }
         requires size { bytes + length_of event.now ≤ limit }
-        ensures { Moves result self.old self.new (with_rows keyspace.now (state_of self.old) event.now gtid bytes self.old.maps self.old.changes) }
+        ensures { MovesTo result self.old self.new out.new (with_rows keyspace.now (state_of self.old) event.now gtid bytes self.old.maps self.old.changes) }
     {
         law_changes();
         let kind = read_head(event).kind;
-        let more = read_rows(alloc, &self.maps, kind, body_of(event), keyspace)?;
+        let more = match read_rows(alloc, &self.maps, kind, body_of(event), keyspace) {
+            Ok(more) => more,
+            Err(refusal) => return Err(refusal.leave_in(out)),
+        };
         append_changes(alloc, &mut self.changes, more)?;
         self.standing = Standing::Inside {
             gtid,

@@ -1,4 +1,5 @@
-ghost use Rattle.std.specs.Prelude.{◌≡◌, Err, MatchOption, Ok, map};
+ghost use Rattle.std.specs.Prelude.{◌≡◌, Err, MatchOption, Ok, map, nat_eq};
+ghost use Rattle.std.specs.Cmp.Lexicographic.{pointwise};
 ghost use Rattle.vs_base.specs.declared.Why.TheVariants.{BadEvent};
 ghost use Rattle.vs_binlog.specs.Words.{first_word, upper};
 ghost use Rattle.vs_entries.specs.Queries.{is_ddl, said, statement_of, told_by};
@@ -30,20 +31,20 @@ pub fn read_statement<'a>(body: &'a [u8], keyspace: &[u8]) -> Option<Told<'a>>
 }
 
 /// What a statement under a default schema is in the log of a shard of the keyspace.
-fn kind_of(schema: &[u8], text: &[u8], keyspace: &[u8]) -> StatementKind
+pub fn kind_of(schema: &[u8], text: &[u8], keyspace: &[u8]) -> StatementKind
     ensures { told_by result text.now ≡ said keyspace.now schema.now text.now (first_word text.now) }
 {
     let word = first_word(text);
-    if is_same_word(word, b"BEGIN") {
+    if is_word(word, b"BEGIN") {
         return StatementKind::Begin;
     }
-    if is_same_word(word, b"COMMIT") {
+    if is_word(word, b"COMMIT") {
         return StatementKind::Commit;
     }
-    if is_same_word(word, b"SAVEPOINT") {
+    if is_word(word, b"SAVEPOINT") {
         return StatementKind::Savepoint;
     }
-    if is_same_word(word, b"XA") {
+    if is_word(word, b"XA") {
         return StatementKind::Xa;
     }
     if changes_schemas(word) && is_schema_of(schema, keyspace) {
@@ -57,17 +58,28 @@ fn kind_of(schema: &[u8], text: &[u8], keyspace: &[u8]) -> StatementKind
 fn changes_schemas(word: &[u8]) -> bool
     ensures { result ≡ is_ddl (map upper word.now) }
 {
-    if is_same_word(word, b"CREATE") {
+    if is_word(word, b"CREATE") {
         return true;
     }
-    if is_same_word(word, b"ALTER") {
+    if is_word(word, b"ALTER") {
         return true;
     }
-    if is_same_word(word, b"DROP") {
+    if is_word(word, b"DROP") {
         return true;
     }
-    if is_same_word(word, b"TRUNCATE") {
+    if is_word(word, b"TRUNCATE") {
         return true;
     }
-    is_same_word(word, b"RENAME")
+    is_word(word, b"RENAME")
+}
+
+/// Whether the word is this one, in any case of its letters. A word of another length isn't looked at.
+#[inline(always)]
+fn is_word(word: &[u8], wanted: &[u8]) -> bool
+    ensures { result ≡ pointwise nat_eq (map upper word.now) wanted.now }
+{
+    if word.len() != wanted.len() {
+        return false;
+    }
+    is_same_word(word, wanted)
 }

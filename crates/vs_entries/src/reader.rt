@@ -2,15 +2,16 @@ ghost use Rattle.std.specs.Prelude.{◌≡◌, ◌≤◌, ◌<◌, ◌+◌, ◌-
 ghost use Rattle.vs_log.specs.Meaning.{knows_base};
 ghost use Rattle.vs_entries.specs.Pieces.{GivesEntry, KeepsFew, fresh, log_fed, rules_fed, with_piece};
 
-use crate::fault::{Fault, tell};
+use crate::fault::{Fault, keep, tell};
 use crate::laws::laws;
+use crate::magic::{Magic, read_magic};
 use crate::out::Out;
 use crate::took::{LogRefusal, Took};
-use crate::walk::{Next, Walk, begins_as_log};
+use crate::walk::{Next, Walk};
 use crate::window::Window;
 use std::alloc::Global;
 use std::marker::Model;
-use vs_base::{OutOfMemory, Text, Why};
+use vs_base::{OutOfMemory, Text};
 use vs_gtid::GtidSet;
 use vs_schema::Schema;
 
@@ -112,17 +113,10 @@ impl Reader {
         if let Some(fault) = &self.fault {
             return Err(tell(self.alloc, fault, &mut self.spent));
         }
-        if self.window.from() == 0 {
-            let front = self.window.rest(0);
-            if !begins_as_log(front) {
-                return Err(LogRefusal::BadLog {
-                    offset: 0,
-                    why: Why::BadMagic,
-                });
-            }
-            if front.len() < 4 {
-                return Ok(Took::More);
-            }
+        match read_magic(&self.window) {
+            Magic::Whole => {}
+            Magic::Part => return Ok(Took::More),
+            Magic::Wrong => return Err(LogRefusal::of_magic()),
         }
         let mut out = Out::new();
         match self.walk.read_entry(
@@ -132,29 +126,14 @@ impl Reader {
             &self.schema,
             &mut out,
         ) {
-            Ok(Next::Gave) => {
-                let Out { entry, .. } = out;
-                match entry {
-                    Some(entry) => Ok(Took::Entry {
-                        entry,
-                        at: self.walk.begun as u64,
-                        end: self.walk.at as u64,
-                    }),
-                    None => unreachable!(),
-                }
-            }
+            Ok(Next::Gave) => Ok(self.walk.took(out.into_entry())),
             Ok(Next::Ended) => {
                 let Out { why, .. } = out;
                 match why {
                     None => Ok(Took::More),
                     Some(why) => {
-                        let fault = Fault {
-                            offset: self.walk.at as u64,
-                            why,
-                        };
-                        let refusal = tell(self.alloc, &fault, &mut self.spent);
-                        self.fault = Some(fault);
-                        Err(refusal)
+                        let at = self.walk.at as u64;
+                        Err(keep(self.alloc, at, why, &mut self.fault, &mut self.spent))
                     }
                 }
             }

@@ -1,3 +1,4 @@
+use crate::out::{Out, Stop};
 use vs_base::{OutOfMemory, Why};
 
 /// Why an event was not taken: what is wrong with it, or that memory ran out.
@@ -15,5 +16,22 @@ impl From<OutOfMemory> for Refusal {
 
     fn from(_error: OutOfMemory) -> Refusal {
         Refusal::Memory
+    }
+}
+
+impl Refusal {
+    ghost use Rattle.vs_entries.specs.Reading.{StopsBy};
+
+    /// Leaves what is wrong in the `Out`.
+    pub fn leave_in(self, out: &mut Out) -> Stop
+        ensures { StopsBy self out.new result }
+    {
+        match self {
+            Refusal::Wrong(why) => {
+                out.why = Some(why);
+                Stop::Wrong
+            }
+            Refusal::Memory => Stop::Memory,
+        }
     }
 }

@@ -20,3 +20,19 @@ pub enum LogRefusal {
     #[error("out of memory")]
     Memory,
 }
+
+impl LogRefusal {
+    ghost use Rattle.std.specs.Prelude.{◌≡◌};
+    ghost use Rattle.vs_base.specs.declared.Why.TheVariants.{BadMagic};
+    ghost use Rattle.vs_entries.specs.declared.took.LogRefusal.TheVariants.{BadLog};
+
+    /// A byte of the magic differs.
+    pub(crate) fn of_magic() -> LogRefusal
+        ensures { result ≡ BadLog 0 BadMagic }
+    {
+        LogRefusal::BadLog {
+            offset: 0,
+            why: Why::BadMagic,
+        }
+    }
+}

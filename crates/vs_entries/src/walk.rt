@@ -1,19 +1,18 @@
 //! A walk over the events of a log's bytes, of which more may come.
 ghost use Rattle.std.specs.Prelude.{◌≡◌, ◌≤◌, ◌<◌, ◌⊎◌, IfOk, OnErr, OnOk, length, true};
 ghost use Rattle.vs_log.specs.Events.{last_place};
-ghost use Rattle.vs_log.specs.Meaning.{has_magic};
 
 use crate::front::front_event;
 use crate::laws::laws;
+use crate::magic::{MAGIC, Magic, read_magic};
 use crate::out::{Out, Stop, Turn};
 use crate::progress::Progress;
+use crate::took::Took;
 use crate::window::Window;
 use std::alloc::{AllocError, Global};
 use vs_base::OutOfMemory;
+use vs_journal::Entry;
 use vs_schema::Schema;
-
-/// The bytes with which a log begins.
-const MAGIC: [u8; 4] = [0xfe, 0x62, 0x69, 0x6e];
 
 /// Where a walk stands.
 #[derive(Debug, Drop)]
@@ -38,8 +37,9 @@ pub enum Next {
 
 impl Walk {
     ghost use Rattle.vs_entries.specs.Reading.{is_early};
-    ghost use Rattle.vs_entries.specs.Walks.{IsBack, IsFresh, IsStuck, IsWalk, ReadsEntry, Stands, TurnsTo};
+    ghost use Rattle.vs_entries.specs.Walks.{IsBack, IsEarly, IsFresh, IsStuck, IsWalk, ReadsEntry, Stands, TurnsTo};
     ghost use Rattle.vs_entries.specs.Rules.{rules_of};
+    ghost use Rattle.vs_entries.specs.declared.took.Took.TheVariants.{Entry as Given};
 
     /// A walk that stands behind the magic.
     pub fn new(alloc: Global) -> Walk
@@ -50,6 +50,18 @@ impl Walk {
             begun: 0,
             given: 0,
             progress: Progress::new(alloc),
+        }
+    }
+
+    /// The entry that ended last, with its places.
+    #[inline(always)]
+    pub fn took(&self, entry: Entry) -> Took
+        ensures { result ≡ Given entry self.now.begun self.now.at }
+    {
+        Took::Entry {
+            entry,
+            at: self.begun as u64,
+            end: self.at as u64,
         }
     }
 
@@ -141,18 +153,40 @@ impl Walk {
         ensures err { OnErr result (IsBack self.old self.new) }
     {
         laws();
-        if window.from() == 0 {
-            let bytes = window.rest(0);
-            if bytes.len() < MAGIC.len() {
-                return Ok(false);
-            }
-            if !begins_as_log(bytes) {
-                return Ok(false);
-            }
+        match read_magic(window) {
+            Magic::Whole => {}
+            _ => return Ok(false),
         }
         let at = self.at;
         let begun = self.begun;
         let standing = self.progress.standing;
+        match self.read_early(alloc, window, keyspace, schema) {
+            Ok(refused) => Ok(refused),
+            Err(error) => {
+                self.at = at;
+                self.begun = begun;
+                self.progress.standing = standing;
+                Err(error)
+            }
+        }
+    }
+
+    /// The same behind the magic. Where memory runs out, events were taken that tell of no base.
+    fn read_early(
+        &mut self,
+        alloc: Global,
+        window: &Window,
+        keyspace: &[u8],
+        schema: &Schema,
+    ) -> Result<bool, OutOfMemory>
+        requires from { window.now.from ≤ self.old.at }
+        requires early { IsEarly (rules_of keyspace.now schema.now) window.now.bytes self.old self.old }
+        ensures ok { IfOk result (λ refused. IsWalk (rules_of keyspace.now schema.now) window.now.bytes self.new refused) }
+        ensures given { OnOk result (self.new.given ≡ self.old.given) }
+        ensures later { self.old.at ≤ self.new.at }
+        ensures err { OnErr result (IsEarly (rules_of keyspace.now schema.now) window.now.bytes self.old self.new) }
+    {
+        laws();
         let mut out = Out::new();
         'events: loop {
             match self.take_turn(alloc, window, keyspace, schema, &mut out) {
@@ -163,23 +197,8 @@ impl Walk {
                 }
                 Ok(Turn::Ends) => unreachable!(),
                 Err(Stop::Wrong) => return Ok(self.progress.standing.is_refused(&out.why)),
-                Err(Stop::Memory) => {
-                    self.at = at;
-                    self.begun = begun;
-                    self.progress.standing = standing;
-                    return Err(AllocError);
-                }
+                Err(Stop::Memory) => return Err(AllocError),
             }
         }
     }
-}
-
-/// Whether each of the first four bytes that is there is that of the magic.
-pub fn begins_as_log(bytes: &[u8]) -> bool
-    ensures { result ≡ has_magic bytes.now }
-{
-    if bytes.len() < 4 {
-        return bytes == &MAGIC[..bytes.len()];
-    }
-    bytes[..4] == MAGIC[..]
 }
