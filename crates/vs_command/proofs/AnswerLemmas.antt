@@ -1,8 +1,11 @@
 -- What was written of a shard's log answers the request that asks for the shard.
-use Rattle.std.proofs.Common.{◌≡◌, ◌≢◌, ℕ, Bool, true, false, List, [], ◌∷◌, ◌++◌, Option, Some, None, if◌then◌else◌, refl, sym, ap, subst, ◌∙◌}
+use Rattle.std.proofs.Common.{◌≡◌, ◌≢◌, ℕ, Bool, true, false, List, [], ◌∷◌, ◌++◌, map, Option, Some, None, if◌then◌else◌, refl, sym, ap, subst, ◌∙◌}
 use Rattle.std.specs.Prelude.{◌⊎◌, IfSome}
 use Rattle.vs_base.specs.declared.Gtid.{Gtid}
 use Rattle.vs_base.specs.declared.ShardName.{ShardName}
+use Rattle.vs_base.specs.declared.rule_text.RuleText.{RuleText}
+use Rattle.vs_filter.specs.Rules.{Meant, first_fault, meant_by}
+use Rattle.vs_filter.specs.declared.bound.Picked.{Picked}
 use Rattle.vs_base.specs.declared.Why.{Why}
 use Rattle.vs_base.specs.Names.{same_name}
 use Rattle.vs_base.proofs.NameLemmas.{same_name-is}
@@ -31,10 +34,11 @@ use Rattle.vs_entries.specs.Laws.{AreNoJournals}
 use Rattle.vs_command.specs.Laws.{Laws}
 use Rattle.vs_log.specs.Laws.{AlwaysNewGtids}
 use Rattle.vs_rows.specs.Tables.{Tables}
-use Rattle.vs_command.specs.Requests.{Asks}
+use Rattle.vs_command.specs.Requests.{AsksBy}
+use Rattle.vs_command.specs.Streaming.Filtered.{refused, taken}
 use Rattle.vs_command.specs.Streaming.Headline.{asked, silent}
 use Rattle.vs_command.specs.Streaming.Outcome.{unread, answers}
-use Rattle.vs_command.specs.Streaming.{Answers, Headline, HasBadLogCause, HasCause, HasFault, HasLogCause, HasSentAll, IsStart, IsStreamed, IsStreamedFrom, IsUnread, Outcome, cluster_meant, places_in, shard_log, shard_places, shard_rules, schema_in, start_at, takes_all}
+use Rattle.vs_command.specs.Streaming.{Answers, Filtered, Headline, HasBadLogCause, HasCause, HasFault, HasLogCause, HasSentAll, IsBeforeStream, IsStart, IsStreamed, IsStreamedFrom, IsUnread, Outcome, cluster_meant, filter_of, places_in, shard_log, shard_places, shard_rules, schema_in, start_at}
 use Rattle.vs_command.proofs.BuiltLemmas.{placed_so}
 use Rattle.vs_command.proofs.SendLemmas.{spelled_built}
 use Rattle.vs_command.proofs.StreamLemmas.{IsStreamedFrom-weaken}
@@ -148,10 +152,10 @@ caused laws stands cluster s start distinct plain p sent rest statuses.InputFaul
 caused laws stands cluster s start distinct plain p sent rest (statuses.OpenFault name) are cause = absurd cause
 caused laws stands cluster s start distinct plain p sent rest (statuses.BadSchema name line) are cause = absurd cause
 
-Answers-streamed : Laws → (cluster : ClusterBytes) (s : ShardName) (start : Start) (whole waited : Type 0) (shard : Shard) (status : Status) (written : List ℕ) (p : Position) →
+Answers-streamed : Laws → (cluster : ClusterBytes) (s : ShardName) (start : Start) (rules : List RuleText) (whole waited : Type 0) (shard : Shard) (status : Status) (written : List ℕ) (p : Position) →
     ((waited → ⊥) → whole) → find_shard cluster s ≡ Some shard → IsStart (shard_log s shard.schema shard.log) start whole p → IsCanonical p →
-    IsStreamed (shard_places s shard.schema shard.log) s (shard_log s shard.schema shard.log) start p status written → Answers cluster s start waited status written
-Answers-streamed laws cluster s start whole waited shard status written p unwaited found starts canonical streamed =
+    IsStreamed (shard_places s shard.schema shard.log) s (shard_log s shard.schema shard.log) start p status written → Answers cluster s start rules waited status written
+Answers-streamed laws cluster s start rules whole waited shard status written p unwaited found starts canonical streamed =
     let meant : log_of (cluster_meant cluster) s ≡ shard_log s shard.schema shard.log = log_of-meant cluster s shard found in
     let distinct : LogsAreDistinct (cluster_meant cluster) = distinct_meant laws.new_gtids cluster in
     let log : Log = log_of (cluster_meant cluster) s in
@@ -168,8 +172,8 @@ Answers-streamed laws cluster s start whole waited shard status written p unwait
       frames = frames;
       first = first_of (cluster_meant cluster) s start whole p here canonical;
       at_end = λ current never. starts_at_end log start whole p here current (unwaited never);
-      legal = laws.steps (cluster_meant cluster) takes_all (vector_at s p) frames distinct (copies_sent s p streamed.sent)
-          (steps_sent laws.transactions laws.due (cluster_meant cluster) s distinct p streamed.sent streamed.rest sent (due_all s log p plain ∙ are) base streamed.canonical);
+      legal = laws.steps (cluster_meant cluster) (filter_of rules cluster) (vector_at s p) frames distinct (copies_sent s p streamed.sent)
+          (steps_sent laws.transactions laws.due (cluster_meant cluster) (filter_of rules cluster) s distinct p streamed.sent streamed.rest sent (due_all s log p plain ∙ are) base streamed.canonical);
       bytes = streamed.bytes;
       spelled = streamed.spelled;
       prefix = streamed.prefix;
@@ -179,42 +183,42 @@ Answers-streamed laws cluster s start whole waited shard status written p unwait
           (subst (λ (l : Log). HasLogCause stands s l start p streamed.sent streamed.rest status) (sym meant) streamed.cause));
     }
 
-outcome_of : Laws → (cluster : ClusterBytes) (s : ShardName) (start : Start) (whole waited : Type 0) (shard : Shard) (status : Status) (written : List ℕ) →
-    ((waited → ⊥) → whole) → find_shard cluster s ≡ Some shard → IsStreamedFrom (shard_places s shard.schema shard.log) s (shard_log s shard.schema shard.log) start whole status written → Outcome cluster s start waited status written
-outcome_of laws cluster s start whole waited shard status written unwaited found (◌⊎◌.inl none) = unread none.1 (subst (λ x. IsUnread cluster s x) (sym none.0) tt)
-outcome_of laws cluster s start whole waited shard status written unwaited found (◌⊎◌.inr from) =
-    answers (Answers-streamed laws cluster s start whole waited shard status written from.0 unwaited found from.1 from.2 from.3)
+outcome_of : Laws → (cluster : ClusterBytes) (s : ShardName) (start : Start) (rules : List RuleText) (whole waited : Type 0) (shard : Shard) (status : Status) (written : List ℕ) →
+    ((waited → ⊥) → whole) → find_shard cluster s ≡ Some shard → IsStreamedFrom (shard_places s shard.schema shard.log) s (shard_log s shard.schema shard.log) start whole status written → Outcome cluster s start rules waited status written
+outcome_of laws cluster s start rules whole waited shard status written unwaited found (◌⊎◌.inl none) = unread none.1 (subst (λ x. IsUnread cluster s (map meant_by rules) x) (sym none.0) tt)
+outcome_of laws cluster s start rules whole waited shard status written unwaited found (◌⊎◌.inr from) =
+    answers (Answers-streamed laws cluster s start rules whole waited shard status written from.0 unwaited found from.1 from.2 from.3)
 
 never_marked : (mark : Option ℕ) (waited : Type 0) → (mark ≢ None → waited) → (waited → ⊥) → mark ≡ None
 never_marked None waited marked never = refl
 never_marked (Some n) waited marked never = absurd (never (marked (λ h. cc)))
 
 -- where the cluster is told, and the log that was fetched is the shard's
-streamed_of : Laws → (cluster : ClusterBytes) (s : ShardName) (start : Start) (whole waited : Type 0) (status : Status) (text bytes : List ℕ) (w : List ℕ) → ((waited → ⊥) → whole) →
+streamed_of : Laws → (cluster : ClusterBytes) (s : ShardName) (start : Start) (rules : List RuleText) (whole waited : Type 0) (status : Status) (text bytes : List ℕ) (w : List ℕ) → ((waited → ⊥) → whole) →
     IsStreamedFrom (shard_places s text bytes) s (shard_log s text bytes) start whole status w → (shard : Option Shard) → find_shard cluster s ≡ shard → IsOfShard shard text bytes →
-    Outcome cluster s start waited status w
-streamed_of laws cluster s start whole waited status text bytes w unwaited streamed None found of = absurd of
-streamed_of laws cluster s start whole waited status text bytes w unwaited streamed (Some shard) found (same, all) =
-    outcome_of laws cluster s start whole waited shard status w unwaited found
+    Outcome cluster s start rules waited status w
+streamed_of laws cluster s start rules whole waited status text bytes w unwaited streamed None found of = absurd of
+streamed_of laws cluster s start rules whole waited status text bytes w unwaited streamed (Some shard) found (same, all) =
+    outcome_of laws cluster s start rules whole waited shard status w unwaited found
     (subst (λ b. IsStreamedFrom (shard_places s shard.schema b) s (shard_log s shard.schema b) start whole status w) all
     (subst (λ t. IsStreamedFrom (shard_places s t bytes) s (shard_log s t bytes) start whole status w) same streamed))
 
-pub Writes-streamed : Laws → (told : Option ClusterBytes) (s : ShardName) (start : Start) (f : Fetched) (waited : Type 0) (status : Status) (text bytes : List ℕ) (before now : Option (List ℕ)) →
-    IsFetchedOf s text bytes f → IfSome told (λ c. IsOfShard (find_shard c s) text bytes) → (f.mark ≢ None → waited) →
-    Writes before now (IsStreamedFrom (IsPlaced f.entries) s (read_as f) start (f.mark ≡ None) status) → IfSome told (λ c. Writes before now (Outcome c s start waited status))
-Writes-streamed laws None s start f waited status text bytes before now fetched of marked wrote = tt
-Writes-streamed laws (Some c) s start f waited status text bytes before now fetched of marked wrote =
-    Writes-weaken (IsStreamedFrom (IsPlaced f.entries) s (read_as f) start (f.mark ≡ None) status) (Outcome c s start waited status) before now
-    (λ w streamed. streamed_of laws c s start (f.mark ≡ None) waited status text bytes w (never_marked f.mark waited marked)
+pub Writes-streamed : Laws → (told : Option ClusterBytes) (s : ShardName) (start : Start) (rules : List RuleText) (meant : List Meant) (f : Fetched) (tables : List Picked) (waited : Type 0) (status : Status) (text bytes : List ℕ) (before now : Option (List ℕ)) →
+    IsFetchedOf s meant text bytes f tables → IfSome told (λ c. IsOfShard (find_shard c s) text bytes) → (f.mark ≢ None → waited) →
+    Writes before now (IsStreamedFrom (IsPlaced f.entries) s (read_as f) start (f.mark ≡ None) status) → IfSome told (λ c. Writes before now (Outcome c s start rules waited status))
+Writes-streamed laws None s start rules meant f tables waited status text bytes before now fetched of marked wrote = tt
+Writes-streamed laws (Some c) s start rules meant f tables waited status text bytes before now fetched of marked wrote =
+    Writes-weaken (IsStreamedFrom (IsPlaced f.entries) s (read_as f) start (f.mark ≡ None) status) (Outcome c s start rules waited status) before now
+    (λ w streamed. streamed_of laws c s start rules (f.mark ≡ None) waited status text bytes w (never_marked f.mark waited marked)
     (IsStreamedFrom-weaken (IsPlaced f.entries) (shard_places s text bytes) s (shard_log s text bytes) start (f.mark ≡ None) status w
     (λ g at there. placed_so (shard_places s text bytes) f.entries g at fetched.places there)
     (subst (λ l. IsStreamedFrom (IsPlaced f.entries) s l start (f.mark ≡ None) status w) fetched.log streamed)) (find_shard c s) refl of) wrote
 
 -- where nothing was written
-pub Writes-unread : (told : Option ClusterBytes) (s : ShardName) (start : Start) (waited : Type 0) (status : Status) (sent : Option (List ℕ)) →
-    IfSome told (λ c. IsUnread c s status) → IfSome told (λ c. Writes sent sent (Outcome c s start waited status))
-Writes-unread None s start waited status sent cause = tt
-Writes-unread (Some c) s start waited status sent cause = Writes-none (Outcome c s start waited status) sent (unread refl cause)
+pub Writes-unread : (told : Option ClusterBytes) (s : ShardName) (start : Start) (rules : List RuleText) (waited : Type 0) (status : Status) (sent : Option (List ℕ)) →
+    IfSome told (λ c. IsUnread c s (map meant_by rules) status) → IfSome told (λ c. Writes sent sent (Outcome c s start rules waited status))
+Writes-unread None s start rules waited status sent cause = tt
+Writes-unread (Some c) s start rules waited status sent cause = Writes-none (Outcome c s start rules waited status) sent (unread refl cause)
 
 pub told_always : (P : ClusterBytes → Type 0) (told : Option ClusterBytes) → ((c : ClusterBytes) → P c) → IfSome told P
 told_always P None all = tt
@@ -225,22 +229,45 @@ told_so P Q None f p = tt
 told_so P Q (Some c) f p = f c p
 
 -- what answers the request is the headline
-pub headline_asked : (told : Option ClusterBytes) (left : Option (List ℕ)) (name : ShardName) (start : Start) (waited : ShardName → Type 0) (status : Status) (before now : Option (List ℕ)) →
-    IfSome left (λ input. Asks input name start) → IfSome told (λ c. Writes before now (Outcome c name start (waited name) status)) →
+asked_so : (c : ClusterBytes) (name : ShardName) (start : Start) (rules : List RuleText) (waited : ShardName → Type 0) (input : List ℕ) (status : Status) (written : List ℕ) → AsksBy input name start rules →
+    Filtered c name start rules (waited name) status written → Headline c waited input status written
+asked_so c name start rules waited input status written asks (refused none before) = silent none before
+asked_so c name start rules waited input status written asks (taken lawful outcome) = asked name start rules (asks, lawful) outcome
+
+pub headline_asked : (told : Option ClusterBytes) (left : Option (List ℕ)) (name : ShardName) (start : Start) (rules : List RuleText) (waited : ShardName → Type 0) (status : Status) (before now : Option (List ℕ)) →
+    IfSome left (λ input. AsksBy input name start rules) → IfSome told (λ c. Writes before now (Filtered c name start rules (waited name) status)) →
     IfSome told (λ c. IfSome left (λ input. Writes before now (Headline c waited input status)))
-headline_asked told left name start waited status before now asks wrote =
-    told_so (λ c. Writes before now (Outcome c name start (waited name) status)) (λ c. IfSome left (λ input. Writes before now (Headline c waited input status))) told (λ c w. each left asks c w) wrote
+headline_asked told left name start rules waited status before now asks wrote =
+    told_so (λ c. Writes before now (Filtered c name start rules (waited name) status)) (λ c. IfSome left (λ input. Writes before now (Headline c waited input status))) told (λ c w. each left asks c w) wrote
   where
-    each : (left : Option (List ℕ)) → IfSome left (λ input. Asks input name start) → (c : ClusterBytes) → Writes before now (Outcome c name start (waited name) status) →
+    each : (left : Option (List ℕ)) → IfSome left (λ input. AsksBy input name start rules) → (c : ClusterBytes) → Writes before now (Filtered c name start rules (waited name) status) →
         IfSome left (λ input. Writes before now (Headline c waited input status))
     each None asks c w = tt
     each (Some input) asks c w =
-        Writes-weaken (Outcome c name start (waited name) status) (Headline c waited input status) before now (λ bytes o. asked name start asks o) w
+        Writes-weaken (Filtered c name start rules (waited name) status) (Headline c waited input status) before now (λ bytes f. asked_so c name start rules waited input status bytes asks f) w
+
+-- ---- the rules, before the shard
+
+-- the rules were refused, and nothing was written
+pub filtered_refused : (told : Option ClusterBytes) (name : ShardName) (start : Start) (rules : List RuleText) (waited : Type 0) (status : Status) (sent : Option (List ℕ)) → IsBeforeStream status →
+    IfSome told (λ c. Writes sent sent (Filtered c name start rules waited status))
+filtered_refused told name start rules waited status sent before =
+    told_always (λ c. Writes sent sent (Filtered c name start rules waited status)) told (λ c. Writes-none (Filtered c name start rules waited status) sent (refused refl before))
+
+-- no rule has a fault, and the shard was streamed; its cluster and the waits of its feeds are counted from before the filter was built
+pub filtered_told : (told_before told : Option ClusterBytes) (name : ShardName) (start : Start) (rules : List RuleText) (waits_before waits waits_now : ℕ) (status : Status) (before now : Option (List ℕ)) →
+    told ≡ told_before → waits ≡ waits_before → first_fault rules ≡ None → IfSome told (λ c. Writes before now (Outcome c name start rules (Rose waits waits_now) status)) →
+    IfSome told_before (λ c. Writes before now (Filtered c name start rules (Rose waits_before waits_now) status))
+filtered_told told_before told name start rules waits_before waits waits_now status before now same steady lawful wrote =
+    told_so (λ c. Writes before now (Outcome c name start rules (Rose waits waits_now) status)) (λ c. Writes before now (Filtered c name start rules (Rose waits_before waits_now) status)) told_before
+    (λ c w. Writes-weaken (Outcome c name start rules (Rose waits waits_now) status) (Filtered c name start rules (Rose waits_before waits_now) status) before now
+    (λ written o. taken lawful (subst (λ k. Outcome c name start rules (Rose k waits_now) status written) steady o)) w)
+    (subst (λ t. IfSome t (λ c. Writes before now (Outcome c name start rules (Rose waits waits_now) status))) same wrote)
 
 -- whether a feed waited, counted from before
 pub headline_moved : (c : ClusterBytes) (waited moved : ShardName → Type 0) (input : List ℕ) (status : Status) (written : List ℕ) → ((n : ShardName) → waited n ≡ moved n) →
     Headline c waited input status written → Headline c moved input status written
-headline_moved c waited moved input status written same (asked name start asks outcome) = asked name start asks (subst (λ w. Outcome c name start w status written) (same name) outcome)
+headline_moved c waited moved input status written same (asked name start rules asks outcome) = asked name start rules asks (subst (λ w. Outcome c name start rules w status written) (same name) outcome)
 headline_moved c waited moved input status written same (silent none before) = silent none before
 
 pub headline_told : (told_before told : Option ClusterBytes) (left : Option (List ℕ)) (waits_before waits waits_now : ShardName → ℕ) (status : Status) (before now : Option (List ℕ)) →

@@ -6,6 +6,7 @@ use Rattle.std.proofs.Math.Bool.{or-false, or_assoc}
 use Rattle.vs_base.specs.declared.ShardName.{ShardName}
 use Rattle.vs_base.specs.declared.Gtid.{Gtid}
 use Rattle.vs_base.specs.Names.{same_gtid}
+use Rattle.vs_base.specs.Picks.{Bound}
 use Rattle.vs_base.proofs.NameLemmas.{same_name-refl}
 use Rattle.vs_gtid.specs.declared.Work.{Work}
 use Rattle.vs_gtid.specs.declared.Work.TheVariants.{Rows, Ddl, Other, Journal}
@@ -21,14 +22,13 @@ use Rattle.vs_gtid.specs.Vectors.{Vector, Place, place_of, moved}
 use Rattle.vs_gtid.specs.Vectors.Place.{Streaming}
 use Rattle.vs_model.specs.Frames.{Frame, last_vector}
 use Rattle.vs_model.specs.Frames.Frame.{AllCopied}
-use Rattle.vs_model.specs.Copy.{picked}
+use Rattle.vs_model.specs.Copy.{Filter, picked}
 use Rattle.vs_model.specs.Legal.{AllCopiedFollows, NoParticipantStands}
 use Rattle.vs_model.specs.Steps.{SendsTx, Steps}
 use Rattle.vs_command.specs.Sending.{vector_at, position_after, entry_frames, IsCanonicalAlong}
 use Rattle.vs_entries.specs.Laws.{AreNoJournals}
 use Rattle.vs_model.specs.Laws.{DueGoesOn, TransactionsAreSteps}
 use Rattle.vs_command.proofs.BuiltLemmas.{kept}
-use Rattle.vs_command.specs.Streaming.{takes_all}
 
 -- the position with a GTID is the one after its entry
 after_one : (p : Position) (e : Entry) → IsPositionAfter p (e ∷ []) (added p e.gtid)
@@ -39,14 +39,14 @@ after_all p [] g = sym (or-false (has p g))
 after_all p (e ∷ es) g =
     after_all (added p e.gtid) es g ∙ ap (λ b. b || is_gtid_of es g) (has-added p e.gtid g) ∙ or_assoc (has p g) (same_gtid e.gtid g) (is_gtid_of es g)
 
--- everything is taken of what is built
-taken : (s : ShardName) (g : Gtid) (t : ℕ) (w : Work) → IsBuilt w →
-    ◌≡◌ {A = Entry} (record { gtid = g; time = t; work = w }) (picked (takes_all s) (record { gtid = g; time = t; work = w }))
-taken s g t (Ddl text) h = refl
-taken s g t Other h = refl
-taken s g t (Rows []) h = refl
-taken s g t (Rows (c ∷ changes)) h = absurd (cc)
-taken s g t (Journal j) h = absurd h
+-- what is built leaves as it is, by every filter
+picked_whole : (b : Bound) (g : Gtid) (t : ℕ) (w : Work) → IsBuilt w →
+    ◌≡◌ {A = Entry} (record { gtid = g; time = t; work = w }) (picked b (record { gtid = g; time = t; work = w }))
+picked_whole b g t (Ddl text) h = refl
+picked_whole b g t Other h = refl
+picked_whole b g t (Rows []) h = refl
+picked_whole b g t (Rows (c ∷ changes)) h = absurd (cc)
+picked_whole b g t (Journal j) h = absurd h
 
 not_foreign : (s : ShardName) (v : Vector) (w : Work) → IsBuilt w → IfSome (journal_of w) (NoParticipantStands s v)
 not_foreign s v (Ddl text) h = tt
@@ -73,16 +73,16 @@ subset_added base p g within x h = subst IsTrue (sym (has-added p g x)) (or_true
     or_true true b h = refl
     or_true false b h = absurd (cc)
 
-sends : (cluster : Cluster) (s : ShardName) (p : Position) (e : Entry) (rest : List Entry) → IsBuilt e.work → due s (log_of cluster s) p ≡ e ∷ rest →
-    IsSubset (log_of cluster s).base p → IsCanonical (added p e.gtid) → SendsTx cluster takes_all (vector_at s p) s e (vector_at s (added p e.gtid))
-sends cluster s p e rest built first base canonical = record {
+sends : (cluster : Cluster) (rules : Filter) (s : ShardName) (p : Position) (e : Entry) (rest : List Entry) → IsBuilt e.work → due s (log_of cluster s) p ≡ e ∷ rest →
+    IsSubset (log_of cluster s).base p → IsCanonical (added p e.gtid) → SendsTx cluster rules (vector_at s p) s e (vector_at s (added p e.gtid))
+sends cluster rules s p e rest built first base canonical = record {
   p = p;
   e = e;
   rest = rest;
   q = added p e.gtid;
   streams = stands_at s p;
   first = first;
-  told_is = taken s e.gtid e.time e.work built;
+  told_is = picked_whole (rules s) e.gtid e.time e.work built;
   base = base;
   grown = after_one p e;
   vector = moved_at s p (added p e.gtid);
@@ -90,14 +90,14 @@ sends cluster s p e rest built first base canonical = record {
   foreign = not_foreign s (vector_at s p) e.work built;
 }
 
-pub steps_sent : TransactionsAreSteps → DueGoesOn → (cluster : Cluster) (s : ShardName) → LogsAreDistinct cluster → (p : Position) (sent rest : List Entry) →
+pub steps_sent : TransactionsAreSteps → DueGoesOn → (cluster : Cluster) (rules : Filter) (s : ShardName) → LogsAreDistinct cluster → (p : Position) (sent rest : List Entry) →
     AreBuilt sent → due s (log_of cluster s) p ≡ sent ++ rest → (sent ≡ []) ⊎ IsSubset (log_of cluster s).base p → IsCanonicalAlong p sent →
-    Steps cluster takes_all (vector_at s p) (entry_frames s p sent)
-steps_sent tx due_law cluster s distinct p [] rest built are base canonical = tt
-steps_sent tx due_law cluster s distinct p (e ∷ es) rest built are (◌⊎◌.inl none) canonical = absurd (cc)
-steps_sent tx due_law cluster s distinct p (e ∷ es) rest built are (◌⊎◌.inr base) canonical = (
-  tx cluster takes_all (vector_at s p) (vector_at s (added p e.gtid)) s e distinct (sends cluster s p e (es ++ rest) built.0 are base canonical.0),
-  steps_sent tx due_law cluster s distinct (added p e.gtid) es rest built.1
+    Steps cluster rules (vector_at s p) (entry_frames s p sent)
+steps_sent tx due_law cluster rules s distinct p [] rest built are base canonical = tt
+steps_sent tx due_law cluster rules s distinct p (e ∷ es) rest built are (◌⊎◌.inl none) canonical = absurd (cc)
+steps_sent tx due_law cluster rules s distinct p (e ∷ es) rest built are (◌⊎◌.inr base) canonical = (
+  tx cluster rules (vector_at s p) (vector_at s (added p e.gtid)) s e distinct (sends cluster rules s p e (es ++ rest) built.0 are base canonical.0),
+  steps_sent tx due_law cluster rules s distinct (added p e.gtid) es rest built.1
       (due_law s (log_of cluster s) p (added p e.gtid) (e ∷ []) (es ++ rest) (distinct s) are (after_one p e))
       (◌⊎◌.inr (subset_added (log_of cluster s).base p e.gtid base)) canonical.1,
 )

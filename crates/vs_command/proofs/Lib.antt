@@ -11,6 +11,7 @@ pub mod PartLemmas
 pub mod RequestLemmas
 pub mod SaidLemmas
 pub mod DueLemmas
+pub mod AskedLemmas
 pub mod StageLemmas
 pub mod LineLemmas
 pub mod OutsideLemmas

@@ -1,8 +1,9 @@
 -- What a stream of one shard writes, and what is known where it is done.
 use Rattle.std.specs.Prelude.{◌≡◌, ◌≢◌, ◌⊎◌, ℕ, List, [], ◌∷◌, ◌++◌, map, take, Option, Some, None, Result, Ok, Err}
-use Rattle.std.specs.declared.cmp.Ordering.TheVariants.{Equal}
 use Rattle.vs_base.specs.declared.Gtid.{Gtid}
 use Rattle.vs_base.specs.declared.ShardName.{ShardName}
+use Rattle.vs_base.specs.declared.rule_text.RuleText.{RuleText}
+use Rattle.vs_base.specs.Picks.{Bound}
 use Rattle.vs_base.specs.declared.Why.{Why}
 use Rattle.vs_base.specs.declared.Why.TheVariants.{NotBuilt}
 use Rattle.vs_gtid.specs.declared.Entry.{Entry}
@@ -15,6 +16,11 @@ use Rattle.vs_schema.specs.declared.schema.Schema.{Schema}
 use Rattle.vs_schema.specs.declared.refusal.SchemaRefusal.{SchemaRefusal}
 use Rattle.vs_schema.specs.declared.refusal.SchemaRefusal.TheVariants as refusal
 use Rattle.vs_schema.specs.Rules.{schema_of}
+use Rattle.vs_filter.specs.Causes.{UnboundIs}
+use Rattle.vs_filter.specs.Picks.{bound_of}
+use Rattle.vs_filter.specs.Rules.{Meant, first_fault, meant_by}
+use Rattle.vs_filter.specs.declared.filter.FilterRefusal.TheVariants as filters
+use Rattle.vs_select.specs.declared.refusal.SelectRefusal.{SelectRefusal}
 use Rattle.vs_log.specs.Meaning.{log_meant}
 use Rattle.vs_log.specs.Productions.{StandsAt}
 use Rattle.vs_rows.specs.Tables.{Tables}
@@ -28,6 +34,8 @@ use Rattle.vs_model.specs.Copy.{Filter}
 use Rattle.vs_model.specs.Legal.{Legal}
 use Rattle.vs_model.specs.Reached.{IsSettled}
 use Rattle.vs_model.specs.Requests.{First, OneShard, StartAt, From, FromEnd}
+use Rattle.vs_command.specs.declared.status.RequestFault.{RequestFault}
+use Rattle.vs_command.specs.declared.status.RequestFault.TheVariants.{BadPattern, PatternRefused, BadRule, Unbound}
 use Rattle.vs_command.specs.declared.status.Status.{Status}
 use Rattle.vs_command.specs.declared.status.Status.TheVariants.{Done, Memory, Usage, Request, UnknownShard, Purged, BadLog, FeedFault, LinkFault, InputFault, OpenFault, PositionTooLarge, BadSchema, BadFrame}
 use Rattle.vs_command.specs.declared.start.Start.{Start}
@@ -67,9 +75,14 @@ places_in (Some shard) s g at = shard_places s shard.schema shard.log g at
 abbrev pub cluster_meant : ClusterBytes → Cluster
 cluster_meant cluster = map (λ shard. (shard.name, shard_log shard.name shard.schema shard.log)) cluster
 
--- The filter that takes everything: each row as it is. No copy is made yet, so it names no table and orders no key.
-abbrev pub takes_all : Filter
-takes_all s = record { row = λ table row. Some row; tables = []; key = λ table row. row; order = λ table a b. Equal }
+-- what the rules make of the changes of a shard that may be in the cluster, under its schema text
+abbrev pub filter_in : List RuleText → Option Shard → Bound
+filter_in rules None = bound_of rules []
+filter_in rules (Some shard) = bound_of rules (schema_in shard.schema).tables
+
+-- the filter of a request over a cluster
+abbrev pub filter_of : List RuleText → ClusterBytes → Filter
+filter_of rules cluster s = filter_in rules (find_shard cluster s)
 
 -- from where a shard is asked for, as the rules of a request have it
 abbrev pub start_at : Start → StartAt
@@ -122,11 +135,19 @@ HasCause stands cluster s start p frames InputFault = ⊥
 HasCause stands cluster s start p frames (OpenFault name) = ⊥
 HasCause stands cluster s start p frames (BadSchema name line) = ⊥
 
+-- the faults of rules, which come once a request was read
+abbrev pub IsOfRules : RequestFault → Type 0
+IsOfRules (BadPattern index) = Unit {0}
+IsOfRules (PatternRefused index) = Unit {0}
+IsOfRules (BadRule index at) = Unit {0}
+IsOfRules (Unbound index why) = Unit {0}
+IsOfRules fault = ⊥
+
 -- the answers of a stream, once its request was read
 abbrev pub IsOfStream : Status → Type 0
 IsOfStream Usage = ⊥
 IsOfStream (BadFrame number frame_why) = ⊥
-IsOfStream (Request fault) = ⊥
+IsOfStream (Request fault) = IsOfRules fault
 IsOfStream InputFault = ⊥
 IsOfStream Done = Unit {0}
 IsOfStream Memory = Unit {0}
@@ -178,32 +199,41 @@ abbrev pub HasBadSchema : Option Shard → ℕ → Type 0
 HasBadSchema None line = ⊥
 HasBadSchema (Some shard) line = schema_of shard.schema ≡ Err (refusal.BadSchema line)
 
+-- the schema text of a shard reads, and the select of this rule is the first that doesn't bind to it, for this reason
+abbrev pub IsUnboundIn : Option Shard → List Meant → ℕ → SelectRefusal → Type 0
+IsUnboundIn None rules index why = ⊥
+IsUnboundIn (Some shard) rules index why = (schema : Schema) × (schema_of shard.schema ≡ Ok schema) × UnboundIs rules schema.tables (filters.Unbound index why)
+
+-- a rule whose select doesn't bind, as the fault of the request that it is
+abbrev pub IsUnboundFault : Option Shard → List Meant → RequestFault → Type 0
+IsUnboundFault shard rules fault = (index : ℕ) × (why : SelectRefusal) × (fault ≡ Unbound index why) × IsUnboundIn shard rules index why
+
 -- The answers that come where no stream of the shard began: its log was not read, or memory ran out before the start was known.
-abbrev pub IsUnread : ClusterBytes → ShardName → Status → Type 0
-IsUnread cluster s (UnknownShard name) = (name ≡ s) × (find_shard cluster s ≡ None)
-IsUnread cluster s (BadSchema name line) = (name ≡ s) × HasBadSchema (find_shard cluster s) line
-IsUnread cluster s (FeedFault name) = name ≡ s
-IsUnread cluster s (OpenFault name) = name ≡ s
-IsUnread cluster s Memory = Unit {0}
-IsUnread cluster s Usage = ⊥
-IsUnread cluster s (BadFrame number frame_why) = ⊥
-IsUnread cluster s (Request fault) = ⊥
-IsUnread cluster s (Purged name missing) = ⊥
-IsUnread cluster s (BadLog name offset why) = ⊥
-IsUnread cluster s LinkFault = ⊥
-IsUnread cluster s InputFault = ⊥
-IsUnread cluster s (PositionTooLarge name) = ⊥
-IsUnread cluster s Done = ⊥
+abbrev pub IsUnread : ClusterBytes → ShardName → List Meant → Status → Type 0
+IsUnread cluster s rules (UnknownShard name) = (name ≡ s) × (find_shard cluster s ≡ None)
+IsUnread cluster s rules (BadSchema name line) = (name ≡ s) × HasBadSchema (find_shard cluster s) line
+IsUnread cluster s rules (Request fault) = IsUnboundFault (find_shard cluster s) rules fault
+IsUnread cluster s rules (FeedFault name) = name ≡ s
+IsUnread cluster s rules (OpenFault name) = name ≡ s
+IsUnread cluster s rules Memory = Unit {0}
+IsUnread cluster s rules Usage = ⊥
+IsUnread cluster s rules (BadFrame number frame_why) = ⊥
+IsUnread cluster s rules (Purged name missing) = ⊥
+IsUnread cluster s rules (BadLog name offset why) = ⊥
+IsUnread cluster s rules LinkFault = ⊥
+IsUnread cluster s rules InputFault = ⊥
+IsUnread cluster s rules (PositionTooLarge name) = ⊥
+IsUnread cluster s rules Done = ⊥
 
 -- What was written for a shard, from a first vector of the request: the bytes of legal frames, or a beginning of them where the link failed.
 -- Where the feed never waited, a stream from the log's end starts behind all of its entries.
-pub record Answers (cluster : ClusterBytes) (name : ShardName) (start : Start) (waited : Type 0) (status : Status) (written : List ℕ) : Type 0 where
+pub record Answers (cluster : ClusterBytes) (name : ShardName) (start : Start) (rules : List RuleText) (waited : Type 0) (status : Status) (written : List ℕ) : Type 0 where
   pub known : find_shard cluster name ≢ None
   pub p : Position
   pub frames : List Frame
   pub first : First (cluster_meant cluster) (OneShard name (start_at start) ∷ []) (vector_at name p)
   pub at_end : start ≡ Current → (waited → ⊥) → IsPositionAfter (log_of (cluster_meant cluster) name).base (log_of (cluster_meant cluster) name).entries p
-  pub legal : Legal (cluster_meant cluster) takes_all (vector_at name p) frames
+  pub legal : Legal (cluster_meant cluster) (filter_of rules cluster) (vector_at name p) frames
   pub bytes : List ℕ
   pub spelled : frames_bytes frames ≡ Some bytes
   pub prefix : IsPrefixOf written bytes
@@ -211,9 +241,9 @@ pub record Answers (cluster : ClusterBytes) (name : ShardName) (start : Start) (
   pub cause : HasCause (places_in (find_shard cluster name) name) (cluster_meant cluster) name start p frames status
 
 -- A shard was asked for: no stream of it began, and nothing was written; or what was written answers.
-pub data Outcome (cluster : ClusterBytes) (name : ShardName) (start : Start) (waited : Type 0) (status : Status) (written : List ℕ) : Type 0 where
-  unread : written ≡ [] → IsUnread cluster name status → Outcome cluster name start waited status written
-  answers : Answers cluster name start waited status written → Outcome cluster name start waited status written
+pub data Outcome (cluster : ClusterBytes) (name : ShardName) (start : Start) (rules : List RuleText) (waited : Type 0) (status : Status) (written : List ℕ) : Type 0 where
+  unread : written ≡ [] → IsUnread cluster name (map meant_by rules) status → Outcome cluster name start rules waited status written
+  answers : Answers cluster name start rules waited status written → Outcome cluster name start rules waited status written
 
 -- the position is a start of the log that was asked for; where the whole log was there, one from the end is behind all entries
 abbrev pub IsStart : Log → Start → Type 0 → Position → Type 0
@@ -265,5 +295,10 @@ IsStreamedFrom stands s log start whole status written =
 -- The headline: what is written answers the request frame at the front of the input, or nothing is written and the answer came before any stream.
 -- `waited` says of a shard that its feed had nothing yet in the call.
 pub data Headline (cluster : ClusterBytes) (waited : ShardName → Type 0) (input : List ℕ) (status : Status) (written : List ℕ) : Type 0 where
-  asked : (name : ShardName) (start : Start) → Asks input name start → Outcome cluster name start (waited name) status written → Headline cluster waited input status written
+  asked : (name : ShardName) (start : Start) (rules : List RuleText) → Asks input name start rules → Outcome cluster name start rules (waited name) status written → Headline cluster waited input status written
   silent : written ≡ [] → IsBeforeStream status → Headline cluster waited input status written
+
+-- What comes of a request for a shard by these rules: they are refused, or memory ran out, and nothing is written; or no rule has a fault, and the shard is streamed.
+pub data Filtered (cluster : ClusterBytes) (name : ShardName) (start : Start) (rules : List RuleText) (waited : Type 0) (status : Status) (written : List ℕ) : Type 0 where
+  refused : written ≡ [] → IsBeforeStream status → Filtered cluster name start rules waited status written
+  taken : first_fault rules ≡ None → Outcome cluster name start rules waited status written → Filtered cluster name start rules waited status written

@@ -1,9 +1,11 @@
 use Rattle.std.proofs.Common.{◌≡◌, ◌≤◌, subst}
 use Rattle.std.specs.Prelude.{◌⊎◌, IfSome}
-use Rattle.vs_command.specs.Causes.{IsDue, IsOutside}
+use Rattle.vs_command.specs.Causes.{IsDue, IsOutside, IsUnbound}
 use Rattle.vs_command.specs.Stages.{IsBrought, stage}
-use Rattle.vs_command.specs.declared.status.Status.TheVariants.{BadSchema, Done, UnknownShard, Purged, BadLog, PositionTooLarge}
+use Rattle.vs_command.specs.declared.status.RequestFault.TheVariants.{Unbound}
+use Rattle.vs_command.specs.declared.status.Status.TheVariants.{BadSchema, Done, Request, UnknownShard, Purged, BadLog, PositionTooLarge}
 use Rattle.vs_command.proofs.AnswerLemmas.{headline_told}
+use Rattle.vs_command.proofs.AskedLemmas.{binding_comes, unbound_came}
 use Rattle.vs_command.proofs.OutsideLemmas.{keeps_pointed, unasked_then}
 use Rattle.vs_command.proofs.run.run.Goals as goal
 
@@ -58,3 +60,13 @@ returns-clause-others g c =
     unasked_then g.T.Tablets.faults g.T.Tablets.waits g.T.Tablets.open_faults (g.I.Source.left c.args.input.now) c.args.tablets.now c.point.new.self c.connection.new.tablets
     (keeps_pointed g.T.Tablets.faults g.T.Tablets.waits g.T.Tablets.open_faults c.args.tablets.now c.point.new.self c.point.ensures.faults c.point.ensures.waits c.point.ensures.open_faults)
     c.connection.ensures.others
+
+pub returns-clause-unbound : goal.returns-clause-unbound
+returns-clause-unbound g c index why is =
+    subst (λ t. IfSome t (λ k. IfSome (g.I.Source.left c.args.input.now) (λ input. IsUnbound k input index why))) c.point.ensures.cluster
+    (unbound_came (g.T.Tablets.cluster c.point.new.self) (g.I.Source.left c.args.input.now) c.connection.result index why c.connection.ensures.due is)
+
+pub returns-clause-unbound_when : goal.returns-clause-unbound_when
+returns-clause-unbound_when g c folder index why words =
+    subst (λ t. IfSome t (λ k. IfSome (g.I.Source.left c.args.input.now) (λ input. IsUnbound k input index why → IsOutside c.connection.result ⊎ (c.connection.result ≡ Request (Unbound index why)))))
+    c.point.ensures.cluster (binding_comes (g.T.Tablets.cluster c.point.new.self) (g.I.Source.left c.args.input.now) c.connection.result index why (c.connection.ensures.only (Request (Unbound index why))))
