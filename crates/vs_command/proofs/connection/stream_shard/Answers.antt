@@ -40,8 +40,8 @@ pub returns-in-Err-OpenFault-clause-answers : goal.returns-in-Err-OpenFault-clau
 returns-in-Err-OpenFault-clause-answers g c =
     Writes-unread (g.T.Tablets.cluster c.args.tablets.now) c.args.asked.name c.args.asked.start c.args.asked.rules _ _ _ (told_always _ (g.T.Tablets.cluster c.args.tablets.now) (λ _. refl))
 
-pub returns-in-Err-FeedFault-clause-answers : goal.returns-in-Err-FeedFault-clause-answers
-returns-in-Err-FeedFault-clause-answers g c =
+pub returns-clause-answers : goal.returns-clause-answers
+returns-clause-answers g c =
     Writes-unread (g.T.Tablets.cluster c.args.tablets.now) c.args.asked.name c.args.asked.start c.args.asked.rules _ _ _ (told_always _ (g.T.Tablets.cluster c.args.tablets.now) (λ _. refl))
 
 pub returns-in-Ok-Some-clause-due : goal.returns-in-Ok-Some-clause-due
@@ -67,8 +67,8 @@ returns-in-Err-BadSchema-clause-due g c =
 pub returns-in-Err-OpenFault-clause-due : goal.returns-in-Err-OpenFault-clause-due
 returns-in-Err-OpenFault-clause-due g c = told_always _ (g.T.Tablets.cluster c.args.tablets.now) (λ _. ◌⊎◌.inl refl)
 
-pub returns-in-Err-FeedFault-clause-due : goal.returns-in-Err-FeedFault-clause-due
-returns-in-Err-FeedFault-clause-due g c =
+pub returns-clause-due : goal.returns-clause-due
+returns-clause-due g c =
     let opened = subst (λ m. IfSome (g.T.Tablets.cluster c.args.tablets.now) (λ k. HasBinding (find_shard k c.args.asked.name) m)) c.requires
         (c.in-Err-FeedFault.ensures.feed_opened (ap (λ e. Err e) c.in-Err-FeedFault.field-0-is)) in
     told_so _ _ (g.T.Tablets.cluster c.args.tablets.now) (λ k p. ◌⊎◌.inl (refl, p)) opened
