@@ -51,8 +51,8 @@ returns-in-Err-Fault-clause-only g c status =
 pub returns-in-Err-Fault-clause-stage : goal.returns-in-Err-Fault-clause-stage
 returns-in-Err-Fault-clause-stage g c status =
     let fault = c.in-Err-Fault.ensures.fault c.in-Err-Fault.fault (ap (λ e. Err e) c.in-Err-Fault.field-0-is) in
-    stage_told c.laws.ensures (g.T.Tablets.cluster c.args.tablets.now) (g.I.Source.left c.args.input.now) (Request c.in-Err-Fault.fault) status
-    (fault_told (g.T.Tablets.cluster c.args.tablets.now) (g.I.Source.left c.args.input.now) c.in-Err-Fault.fault fault)
+    rw c.in-Err-Fault.fault-is (stage_told c.laws.ensures (g.T.Tablets.cluster c.args.tablets.now) (g.I.Source.left c.args.input.now) (Request c.in-Err-Fault.fault) status
+    (fault_told (g.T.Tablets.cluster c.args.tablets.now) (g.I.Source.left c.args.input.now) c.in-Err-Fault.fault fault))
 
 pub returns-in-Err-Fault-clause-request_when : goal.returns-in-Err-Fault-clause-request_when
 returns-in-Err-Fault-clause-request_when g c other =
