@@ -1,0 +1,10 @@
+pub mod Vgtids
+pub mod Journals
+pub mod Groups
+pub mod Events
+pub mod Spelling
+pub mod Frames
+pub mod Bodies
+pub mod Rendering
+pub mod Refusals
+pub mod Laws
