@@ -6,7 +6,7 @@ use Rattle.vs_base.specs.declared.rule_text.RuleText.{RuleText}
 use Rattle.vs_schema.specs.Rules.{schema_of}
 use Rattle.vs_select.specs.declared.refusal.SelectRefusal.{SelectRefusal}
 use Rattle.vs_filter.specs.Causes.{HasNoPattern, HasPatternAt, NotBuiltIs}
-use Rattle.vs_filter.specs.Rules.{Meant, first_fault, meant_by}
+use Rattle.vs_filter.specs.Rules.{Meant, first_fault, meant_by, picked_by}
 use Rattle.vs_filter.specs.declared.bound.Picked.{Picked}
 use Rattle.vs_filter.specs.declared.filter.FilterRefusal.{FilterRefusal}
 use Rattle.vs_filter.specs.declared.filter.FilterRefusal.TheVariants as filters
@@ -19,13 +19,13 @@ use Rattle.vs_command.specs.declared.status.RequestFault.TheVariants.{Cut, TooLo
 use Rattle.vs_command.specs.declared.status.Status.{Status}
 use Rattle.vs_command.specs.declared.status.Status.TheVariants.{Done, Memory, Usage, Request, UnknownShard, Purged, BadLog, FeedFault, LinkFault, InputFault, OpenFault, PositionTooLarge, BadSchema, BadFrame}
 use Rattle.vs_command.specs.declared.fetched.Fetched.{Fetched}
-use Rattle.vs_command.specs.Causes.{AnswersRules, AsksByItsLog, HasRead, HoldsBase, IsBindingFault, IsDue, IsOutside, IsUnbound, LogAsksFor, RefusesRules, RulesAskFor, ShardAsksFor, refusal_status}
+use Rattle.vs_command.specs.Causes.{AnswersRules, AsksByItsLog, HasRead, HoldsBase, IsBindingFault, IsDue, IsOutside, IsOwed, IsUnbound, LogAsksFor, RefusesRules, RulesAskFor, ShardAsksFor, refusal_status}
 use Rattle.vs_command.specs.Fetched.{IsFetchedOf, IsOfShard, IsPlaced, read_as}
 use Rattle.vs_command.specs.Laws.{Laws}
 use Rattle.vs_command.specs.Requests.{Asks, AsksBy, HasPatternIn, HasTaken, IsFaultOf, IsFaultOfRules, IsOfInput, IsRequestFrame, LacksPatterns, TakesOf}
 use Rattle.vs_command.specs.Stages.{HasBinding, IsBrought, IsBroughtBy, IsBroughtOf, IsBroughtOn}
 use Rattle.vs_command.specs.Streaming.{HasBadSchema, IsBeforeStream, IsOfRules, IsOfStream, IsUnboundIn, IsUnread, shard_log, shard_places}
-use Rattle.vs_command.proofs.BuiltLemmas.{placed_so}
+use Rattle.vs_command.proofs.SizeLemmas.{placed_so}
 use Rattle.vs_command.proofs.CauseLemmas.{LogAsksFor-weaken}
 use Rattle.vs_command.proofs.DueLemmas.{ShardAnswer, came_told, shard_answer, unbound_asks}
 use Rattle.vs_command.proofs.DueLemmas.ShardAnswer.{unread_schema, unbound_rule, by_log}
@@ -33,7 +33,7 @@ use Rattle.vs_command.proofs.SaidLemmas.{fault_once, not_asked}
 
 -- a shard whose schema text reads was asked for, and what its log asks for
 asked_log : (cluster : ClusterBytes) (input : List ℕ) (name : ShardName) (start : Start) (rules : List RuleText) (shard : Shard) (status : Status) → Asks input name start rules → find_shard cluster name ≡ Some shard →
-    AsksByItsLog shard name start (map meant_by rules) status → IsDue cluster input status
+    AsksByItsLog LogAsksFor shard name start (map meant_by rules) status → IsDue cluster input status
 asked_log cluster input name start rules shard Done asks found by = (name, start, rules, shard, asks, found, by)
 asked_log cluster input name start rules shard (BadLog n offset why) asks found by = (name, start, rules, shard, asks, found, by)
 asked_log cluster input name start rules shard (Purged n missing) asks found by = (name, start, rules, shard, asks, found, by)
@@ -45,35 +45,23 @@ asked_log cluster input name start rules shard (FeedFault n) asks found by = (na
 asked_log cluster input name start rules shard LinkFault asks found by = (name, start, rules, shard, asks, found, by)
 asked_log cluster input name start rules shard InputFault asks found by = (name, start, rules, shard, asks, found, by)
 asked_log cluster input name start rules shard (OpenFault n) asks found by = (name, start, rules, shard, asks, found, by)
-asked_log cluster input name start rules shard (Request fault) asks found (schema, reads, binds, for) = absurd (none start for)
-  where
-    none : (start : Start) → LogAsksFor (shard_places name shard.schema shard.log) name (shard_log name shard.schema shard.log) start (Request fault) → ⊥
-    none (At p) asks = asks
-    none Current asks = asks
-asked_log cluster input name start rules shard (UnknownShard n) asks found (schema, reads, binds, for) = absurd (none start for)
-  where
-    none : (start : Start) → LogAsksFor (shard_places name shard.schema shard.log) name (shard_log name shard.schema shard.log) start (UnknownShard n) → ⊥
-    none (At p) asks = asks
-    none Current asks = asks
-asked_log cluster input name start rules shard (BadSchema n line) asks found (schema, reads, binds, for) = absurd (none start for)
-  where
-    none : (start : Start) → LogAsksFor (shard_places name shard.schema shard.log) name (shard_log name shard.schema shard.log) start (BadSchema n line) → ⊥
-    none (At p) asks = asks
-    none Current asks = asks
+asked_log cluster input name start rules shard (Request fault) asks found (schema, reads, binds, (p, from, for)) = absurd for
+asked_log cluster input name start rules shard (UnknownShard n) asks found (schema, reads, binds, (p, from, for)) = absurd for
+asked_log cluster input name start rules shard (BadSchema n line) asks found (schema, reads, binds, (p, from, for)) = absurd for
 
 -- a shard that was asked for, and what it asks for
 shard_due : (cluster : ClusterBytes) (input : List ℕ) (name : ShardName) (start : Start) (rules : List RuleText) (shard : Shard) (status : Status) → Asks input name start rules → find_shard cluster name ≡ Some shard →
-    ShardAnswer shard name start (map meant_by rules) status → IsDue cluster input status
+    ShardAnswer LogAsksFor shard name start (map meant_by rules) status → IsDue cluster input status
 shard_due cluster input name start rules shard status asks found (unread_schema line cut is) = subst (λ s. IsDue cluster input s) (sym is) (start, rules, shard, asks, found, cut)
 shard_due cluster input name start rules shard status asks found (unbound_rule index why not is) =
     subst (λ s. IsDue cluster input s) (sym is) (◌⊎◌.inr (index, why, refl, (name, start, rules, asks, subst (λ o. IsUnboundIn o (map meant_by rules) index why) (sym found) not)))
 shard_due cluster input name start rules shard status asks found (by_log by) = asked_log cluster input name start rules shard status asks found by
 
 asked_due : (cluster : ClusterBytes) (input : List ℕ) (name : ShardName) (start : Start) (rules : List RuleText) (shard : Option Shard) (status : Status) → Asks input name start rules → find_shard cluster name ≡ shard →
-    ShardAsksFor shard name start (map meant_by rules) status → IsDue cluster input status
+    ShardAsksFor LogAsksFor shard name start (map meant_by rules) status → IsDue cluster input status
 asked_due cluster input name start rules None status asks found for = subst (λ s. IsDue cluster input s) (sym for) (start, rules, asks, found)
 asked_due cluster input name start rules (Some shard) status asks found for =
-    shard_due cluster input name start rules shard status asks found (shard_answer shard name start (map meant_by rules) status for)
+    shard_due cluster input name start rules shard status asks found (shard_answer LogAsksFor shard name start (map meant_by rules) status for)
 
 -- an answer from outside, where a shard was asked for
 asked_brought : (cluster : ClusterBytes) (input : List ℕ) (name : ShardName) (start : Start) (rules : List RuleText) (status : Status) → Asks input name start rules →
@@ -215,7 +203,7 @@ unbound_came told left status index why due is =
 
 -- what comes where a fault is due, comes where a rule doesn't bind
 pub binding_comes : (told : Option ClusterBytes) (left : Option (List ℕ)) (status : Status) (index : ℕ) (why : SelectRefusal) →
-    IfSome told (λ c. IfSome left (λ input. IsDue c input (Request (status_fault.Unbound index why)) → IsOutside status ⊎ (status ≡ Request (status_fault.Unbound index why)))) →
+    IfSome told (λ c. IfSome left (λ input. IsOwed c input (Request (status_fault.Unbound index why)) → IsOutside status ⊎ (status ≡ Request (status_fault.Unbound index why)))) →
     IfSome told (λ c. IfSome left (λ input. IsUnbound c input index why → IsOutside status ⊎ (status ≡ Request (status_fault.Unbound index why))))
 binding_comes None left status index why only = tt
 binding_comes (Some c) None status index why only = tt
@@ -276,17 +264,17 @@ refusal_open filters.Memory n h = cc
 
 -- the shard was streamed by rules without a fault
 pub taken_due : (told_before told : Option ClusterBytes) (name : ShardName) (start : Start) (rules : List RuleText) (status : Status) → told ≡ told_before → first_fault rules ≡ None →
-    IfSome told (λ c. IsBroughtOn (find_shard c name) name start (map meant_by rules) status ⊎ ShardAsksFor (find_shard c name) name start (map meant_by rules) status) →
+    IfSome told (λ c. IsBroughtOn (find_shard c name) name start (map meant_by rules) status ⊎ ShardAsksFor LogAsksFor (find_shard c name) name start (map meant_by rules) status) →
     IfSome told_before (λ c. IsBroughtBy (find_shard c name) name start rules status ⊎ RulesAskFor (find_shard c name) name start rules status)
 taken_due told_before told name start rules status same lawful due =
     subst (λ t. IfSome t (λ c. IsBroughtBy (find_shard c name) name start rules status ⊎ RulesAskFor (find_shard c name) name start rules status)) same (go told due)
   where
-    each : (c : ClusterBytes) → IsBroughtOn (find_shard c name) name start (map meant_by rules) status ⊎ ShardAsksFor (find_shard c name) name start (map meant_by rules) status →
+    each : (c : ClusterBytes) → IsBroughtOn (find_shard c name) name start (map meant_by rules) status ⊎ ShardAsksFor LogAsksFor (find_shard c name) name start (map meant_by rules) status →
         IsBroughtBy (find_shard c name) name start rules status ⊎ RulesAskFor (find_shard c name) name start rules status
     each c (◌⊎◌.inl brought) = ◌⊎◌.inl (◌⊎◌.inr (◌⊎◌.inr (lawful, brought)))
     each c (◌⊎◌.inr for) = ◌⊎◌.inr (◌⊎◌.inr (lawful, for))
 
-    go : (told : Option ClusterBytes) → IfSome told (λ c. IsBroughtOn (find_shard c name) name start (map meant_by rules) status ⊎ ShardAsksFor (find_shard c name) name start (map meant_by rules) status) →
+    go : (told : Option ClusterBytes) → IfSome told (λ c. IsBroughtOn (find_shard c name) name start (map meant_by rules) status ⊎ ShardAsksFor LogAsksFor (find_shard c name) name start (map meant_by rules) status) →
         IfSome told (λ c. IsBroughtBy (find_shard c name) name start rules status ⊎ RulesAskFor (find_shard c name) name start rules status)
     go None due = tt
     go (Some c) due = each c due
@@ -306,20 +294,21 @@ binding_rules rules before now fault (index, why, is) = subst (λ f. RefusesRule
 -- ---- the shard's log that was read
 
 -- what is asked for by the log that was fetched, the shard's log asks for
-asks_fetched : (s : ShardName) (start : Start) (rules : List Meant) (status : Status) (text bytes : List ℕ) (f : Fetched) (tables : List Picked) → IsFetchedOf s rules text bytes f tables → LogAsksFor (IsPlaced f.entries) s (read_as f) start status →
-    (shard : Option Shard) → IsOfShard shard text bytes → ShardAsksFor shard s start rules status
+asks_fetched : (s : ShardName) (start : Start) (rules : List Meant) (status : Status) (text bytes : List ℕ) (f : Fetched) (tables : List Picked) → IsFetchedOf s rules text bytes f tables →
+    LogAsksFor (IsPlaced f.entries) tables s (read_as f) start status → (shard : Option Shard) → IsOfShard shard text bytes → ShardAsksFor LogAsksFor shard s start rules status
 asks_fetched s start rules status text bytes f tables fetched asks None of = absurd of
 asks_fetched s start rules status text bytes f tables fetched asks (Some shard) (same, all) =
-    let here : LogAsksFor (shard_places s text bytes) s (shard_log s text bytes) start status =
-    LogAsksFor-weaken (IsPlaced f.entries) (shard_places s text bytes) s (shard_log s text bytes) start status
+    let here : LogAsksFor (shard_places s text bytes) tables s (shard_log s text bytes) start status =
+    LogAsksFor-weaken (IsPlaced f.entries) (shard_places s text bytes) tables s (shard_log s text bytes) start status
     (λ g at there. placed_so (shard_places s text bytes) f.entries g at fetched.places there)
-    (subst (λ l. LogAsksFor (IsPlaced f.entries) s l start status) fetched.log asks) in
+    (subst (λ l. LogAsksFor (IsPlaced f.entries) tables s l start status) fetched.log asks) in
     ◌⊎◌.inr (◌⊎◌.inr (
       fetched.schema,
       subst (λ t. schema_of t ≡ Ok fetched.schema) same fetched.reads,
       fetched.binds,
-      subst (λ b. LogAsksFor (shard_places s shard.schema b) s (shard_log s shard.schema b) start status) all
-          (subst (λ t. LogAsksFor (shard_places s t bytes) s (shard_log s t bytes) start status) same here),
+      subst (λ b. LogAsksFor (shard_places s shard.schema b) (picked_by rules fetched.schema.tables) s (shard_log s shard.schema b) start status) all
+          (subst (λ t. LogAsksFor (shard_places s t bytes) (picked_by rules fetched.schema.tables) s (shard_log s t bytes) start status) same
+          (subst (λ ts. LogAsksFor (shard_places s text bytes) ts s (shard_log s text bytes) start status) fetched.picks here)),
     ))
 
 -- what an answer from outside says of the log that was fetched, it says of the shard
@@ -346,30 +335,30 @@ brought_fetched s start rules (PositionTooLarge name) text bytes f tables fetche
 brought_fetched s start rules (BadSchema name line) text bytes f tables fetched brought shard of = absurd brought
 
 pub due_streamed : (told : Option ClusterBytes) (s : ShardName) (start : Start) (rules : List Meant) (status : Status) (text bytes : List ℕ) (f : Fetched) (tables : List Picked) → IsFetchedOf s rules text bytes f tables →
-    IfSome told (λ c. IsOfShard (find_shard c s) text bytes) → IsBroughtOf (read_as f) start status ⊎ LogAsksFor (IsPlaced f.entries) s (read_as f) start status →
-    IfSome told (λ c. IsBroughtOn (find_shard c s) s start rules status ⊎ ShardAsksFor (find_shard c s) s start rules status)
+    IfSome told (λ c. IsOfShard (find_shard c s) text bytes) → IsBroughtOf (read_as f) start status ⊎ LogAsksFor (IsPlaced f.entries) tables s (read_as f) start status →
+    IfSome told (λ c. IsBroughtOn (find_shard c s) s start rules status ⊎ ShardAsksFor LogAsksFor (find_shard c s) s start rules status)
 due_streamed None s start rules status text bytes f tables fetched of due = tt
 due_streamed (Some c) s start rules status text bytes f tables fetched of (◌⊎◌.inl brought) = ◌⊎◌.inl (brought_fetched s start rules status text bytes f tables fetched brought (find_shard c s) of)
 due_streamed (Some c) s start rules status text bytes f tables fetched of (◌⊎◌.inr asks) = ◌⊎◌.inr (asks_fetched s start rules status text bytes f tables fetched asks (find_shard c s) of)
 
 pub due_bad_schema : (told : Option ClusterBytes) (s : ShardName) (start : Start) (rules : List Meant) (line : ℕ) → IfSome told (λ c. HasBadSchema (find_shard c s) line) →
-    IfSome told (λ c. IsBroughtOn (find_shard c s) s start rules (BadSchema s line) ⊎ ShardAsksFor (find_shard c s) s start rules (BadSchema s line))
+    IfSome told (λ c. IsBroughtOn (find_shard c s) s start rules (BadSchema s line) ⊎ ShardAsksFor LogAsksFor (find_shard c s) s start rules (BadSchema s line))
 due_bad_schema None s start rules line bad = tt
 due_bad_schema (Some c) s start rules line bad = ◌⊎◌.inr (go (find_shard c s) bad)
   where
-    go : (shard : Option Shard) → HasBadSchema shard line → ShardAsksFor shard s start rules (BadSchema s line)
+    go : (shard : Option Shard) → HasBadSchema shard line → ShardAsksFor LogAsksFor shard s start rules (BadSchema s line)
     go None h = absurd h
     go (Some shard) h = ◌⊎◌.inl (line, h, refl)
 
 pub due_unbound : (told : Option ClusterBytes) (s : ShardName) (start : Start) (rules : List Meant) (index : ℕ) (why : SelectRefusal) → IfSome told (λ c. IsUnboundIn (find_shard c s) rules index why) →
-    IfSome told (λ c. IsBroughtOn (find_shard c s) s start rules (Request (status_fault.Unbound index why)) ⊎ ShardAsksFor (find_shard c s) s start rules (Request (status_fault.Unbound index why)))
+    IfSome told (λ c. IsBroughtOn (find_shard c s) s start rules (Request (status_fault.Unbound index why)) ⊎ ShardAsksFor LogAsksFor (find_shard c s) s start rules (Request (status_fault.Unbound index why)))
 due_unbound None s start rules index why not = tt
-due_unbound (Some c) s start rules index why not = ◌⊎◌.inr (unbound_asks (find_shard c s) s start rules index why not)
+due_unbound (Some c) s start rules index why not = ◌⊎◌.inr (unbound_asks LogAsksFor (find_shard c s) s start rules index why not)
 
 pub due_unknown : (told : Option ClusterBytes) (s : ShardName) (start : Start) (rules : List Meant) → IfSome told (λ c. find_shard c s ≡ None) →
-    IfSome told (λ c. IsBroughtOn (find_shard c s) s start rules (UnknownShard s) ⊎ ShardAsksFor (find_shard c s) s start rules (UnknownShard s))
+    IfSome told (λ c. IsBroughtOn (find_shard c s) s start rules (UnknownShard s) ⊎ ShardAsksFor LogAsksFor (find_shard c s) s start rules (UnknownShard s))
 due_unknown None s start rules none = tt
-due_unknown (Some c) s start rules none = ◌⊎◌.inr (subst (λ o. ShardAsksFor o s start rules (UnknownShard s)) (sym none) refl)
+due_unknown (Some c) s start rules none = ◌⊎◌.inr (subst (λ o. ShardAsksFor LogAsksFor o s start rules (UnknownShard s)) (sym none) refl)
 
 -- a fault of rules comes once a whole frame was taken
 rules_taken : (before now : Option (List ℕ)) (fault : RequestFault) → IsOfRules fault → TakesOf before now (λ taken rest. IsRequestFrame taken) → TakesOf before now (HasTaken fault)
@@ -416,9 +405,9 @@ told_any (Some c) (Some input) P all = all c input
 -- ---- the same, where it is said of the rules as the filter has them
 
 pub due_meant : (told : Option ClusterBytes) (s : ShardName) (start : Start) (a b : List Meant) (status : Status) → a ≡ b →
-    IfSome told (λ c. IsBroughtOn (find_shard c s) s start a status ⊎ ShardAsksFor (find_shard c s) s start a status) →
-    IfSome told (λ c. IsBroughtOn (find_shard c s) s start b status ⊎ ShardAsksFor (find_shard c s) s start b status)
-due_meant told s start a b status same due = subst (λ m. IfSome told (λ c. IsBroughtOn (find_shard c s) s start m status ⊎ ShardAsksFor (find_shard c s) s start m status)) same due
+    IfSome told (λ c. IsBroughtOn (find_shard c s) s start a status ⊎ ShardAsksFor LogAsksFor (find_shard c s) s start a status) →
+    IfSome told (λ c. IsBroughtOn (find_shard c s) s start b status ⊎ ShardAsksFor LogAsksFor (find_shard c s) s start b status)
+due_meant told s start a b status same due = subst (λ m. IfSome told (λ c. IsBroughtOn (find_shard c s) s start m status ⊎ ShardAsksFor LogAsksFor (find_shard c s) s start m status)) same due
 
 pub unread_unbound : (told : Option ClusterBytes) (s : ShardName) (rules : List Meant) (index : ℕ) (why : SelectRefusal) → IfSome told (λ c. IsUnboundIn (find_shard c s) rules index why) →
     IfSome told (λ c. IsUnread c s rules (Request (status_fault.Unbound index why)))

@@ -1,5 +1,5 @@
 -- An input and a cluster ask for one answer.
-use Rattle.std.proofs.Common.{◌≡◌, ℕ, false, List, map, Option, Some, None, Result, Ok, Err, refl, sym, ap, subst, ◌∙◌, arith}
+use Rattle.std.proofs.Common.{◌≡◌, ℕ, ◌-◌, ◌^◌, min, false, List, map, Option, Some, None, Result, Ok, Err, refl, sym, ap, subst, ◌∙◌, arith}
 use Rattle.std.specs.Prelude.{◌⊎◌, IfSome}
 use Rattle.std.specs.Cmp.Lexicographic.{slice_cmp}
 use Rattle.std.specs.Ordering.{nat_cmp, is_gt, ordering_then, ordering_reverse}
@@ -13,7 +13,8 @@ use Rattle.vs_base.specs.declared.ShardName.{ShardName}
 use Rattle.vs_base.specs.declared.rule_text.RuleText.{RuleText}
 use Rattle.vs_base.specs.declared.table.Table.{Table}
 use Rattle.vs_base.specs.declared.Why.{Why}
-use Rattle.vs_base.specs.declared.Why.TheVariants.{NotBuilt}
+use Rattle.vs_base.specs.declared.Why.TheVariants.{TooLarge}
+use Rattle.vs_filter.specs.declared.bound.Picked.{Picked}
 use Rattle.vs_gtid.specs.declared.Entry.{Entry}
 use Rattle.vs_schema.specs.declared.schema.Schema.{Schema}
 use Rattle.vs_schema.specs.declared.refusal.SchemaRefusal.{SchemaRefusal}
@@ -23,7 +24,7 @@ use Rattle.vs_select.specs.Binding.{Unbound, UnknownColumn, WrongLiteral}
 use Rattle.vs_select.specs.declared.refusal.SelectRefusal.{SelectRefusal}
 use Rattle.vs_select.specs.declared.refusal.SelectRefusal.TheVariants as select
 use Rattle.vs_filter.specs.Causes.{UnboundIs}
-use Rattle.vs_filter.specs.Rules.{Meant, first_unbound, meant_by}
+use Rattle.vs_filter.specs.Rules.{Meant, first_unbound, meant_by, picked_by}
 use Rattle.vs_filter.specs.declared.filter.FilterRefusal.TheVariants as filters
 use Rattle.vs_gtid.specs.Logs.{Log}
 use Rattle.vs_gtid.specs.Missing.{IsFirstMissing, comes_after}
@@ -37,8 +38,8 @@ use Rattle.vs_command.specs.declared.status.RequestFault.{RequestFault}
 use Rattle.vs_command.specs.declared.status.RequestFault.TheVariants as status_fault
 use Rattle.vs_command.specs.declared.status.Status.{Status}
 use Rattle.vs_command.specs.declared.status.Status.TheVariants.{Done, Memory, Usage, Request, UnknownShard, Purged, BadLog, FeedFault, LinkFault, InputFault, OpenFault, PositionTooLarge, BadSchema, BadFrame}
-use Rattle.vs_command.specs.Built.{built_front, first_unbuilt}
-use Rattle.vs_command.specs.Causes.{AnswersLog, AsksByItsLog, CanBeSent, StreamEndsAt, EndsWith, IsDue, IsFaultDue, IsOutside, LogAsksFor, ShardAsksFor, counted}
+use Rattle.vs_command.specs.Sizes.{IsOversized, first_oversized, sendable_front, size_over}
+use Rattle.vs_command.specs.Causes.{AnswersBy, AsksByItsLog, CanBeSent, StreamEndsAt, EndsWith, IsDue, IsDueBy, IsFaultDue, IsFrom, IsOutside, IsOwed, LogAsksFor, LogOwes, PositionAsksFor, ShardAsksFor}
 use Rattle.vs_command.specs.Laws.{Laws}
 use Rattle.vs_command.specs.Requests.{Asks, IsFaultOf}
 use Rattle.vs_command.specs.Sending.{IsTooLargeAlong}
@@ -72,58 +73,59 @@ end_status s None = Done
 end_status s (Some fault) = BadLog s fault.0 fault.1
 
 -- which of three it is
-pub data LogAnswer (stands : Gtid → ℕ → Type 0) (s : ShardName) (log : Log) (start : Start) (status : Status) : Type 0 where
-  ends : CanBeSent log start → (fault : Option (ℕ × Why)) → EndsWith stands log start fault → status ≡ end_status s fault → LogAnswer stands s log start status
-  purged : (p : Position) (missing : Gtid) → start ≡ At p → IsFirstMissing log.base p missing → status ≡ Purged s missing → LogAnswer stands s log start status
-  large : (p : Position) → start ≡ At p → IsSubset log.base p → IsTooLargeAlong p (built_front (after log p)) → status ≡ PositionTooLarge s → LogAnswer stands s log start status
+pub data LogAnswer (stands : Gtid → ℕ → Type 0) (tables : List Picked) (s : ShardName) (log : Log) (p : Position) (status : Status) : Type 0 where
+  ends : CanBeSent tables s log p → (fault : Option (ℕ × Why)) → EndsWith stands tables s log p fault → status ≡ end_status s fault → LogAnswer stands tables s log p status
+  purged : (missing : Gtid) → IsFirstMissing log.base p missing → status ≡ Purged s missing → LogAnswer stands tables s log p status
+  large : IsSubset log.base p → IsTooLargeAlong p (sendable_front tables s (after log p)) → status ≡ PositionTooLarge s → LogAnswer stands tables s log p status
 
-pub log_answer : (stands : Gtid → ℕ → Type 0) (s : ShardName) (log : Log) (start : Start) (status : Status) → LogAsksFor stands s log start status → LogAnswer stands s log start status
-log_answer stands s log start Done asks = ends asks.0 None asks.1 refl
-log_answer stands s log start (BadLog name offset why) asks = ends asks.1 (Some (offset, why)) asks.2 (ap (λ n. BadLog n offset why) asks.0)
-log_answer stands s log (At p) (Purged name missing) asks = purged p missing refl asks.1 (ap (λ n. Purged n missing) asks.0)
-log_answer stands s log Current (Purged name missing) asks = absurd asks
-log_answer stands s log (At p) (PositionTooLarge name) asks = large p refl asks.1 asks.2 (ap (λ n. PositionTooLarge n) asks.0)
-log_answer stands s log Current (PositionTooLarge name) asks = absurd asks
-log_answer stands s log start Memory asks = absurd asks
-log_answer stands s log start Usage asks = absurd asks
-log_answer stands s log start (BadFrame number frame_why) asks = absurd asks
-log_answer stands s log start (Request fault) asks = absurd asks
-log_answer stands s log start (UnknownShard name) asks = absurd asks
-log_answer stands s log start (FeedFault name) asks = absurd asks
-log_answer stands s log start LinkFault asks = absurd asks
-log_answer stands s log start InputFault asks = absurd asks
-log_answer stands s log start (OpenFault name) asks = absurd asks
-log_answer stands s log start (BadSchema name line) asks = absurd asks
-
-none_purged : (log : Log) (start : Start) (p : Position) (missing : Gtid) → CanBeSent log start → start ≡ At p → IsFirstMissing log.base p missing → ⊥
-none_purged log start p missing can at first = not_subset log.base p missing first (subst (λ s. CanBeSent log s) at can).base
-
-none_large : (log : Log) (start : Start) (p : Position) → CanBeSent log start → start ≡ At p → IsTooLargeAlong p (built_front (after log p)) → ⊥
-none_large log start p can at over = (subst (λ s. CanBeSent log s) at can).room over
-
-same_at : (start : Start) (p q : Position) → start ≡ At p → start ≡ At q → p ≡ q
-same_at start p q a b = let same : ◌≡◌ {A = Start} (At p) (At q) = sym a ∙ b in cc
+pub log_answer : (stands : Gtid → ℕ → Type 0) (tables : List Picked) (s : ShardName) (log : Log) (p : Position) (status : Status) → PositionAsksFor stands tables s log p status → LogAnswer stands tables s log p status
+log_answer stands tables s log p Done asks = ends asks.0 None asks.1 refl
+log_answer stands tables s log p (BadLog name offset why) asks = ends asks.1 (Some (offset, why)) asks.2 (ap (λ n. BadLog n offset why) asks.0)
+log_answer stands tables s log p (Purged name missing) asks = purged missing asks.1 (ap (λ n. Purged n missing) asks.0)
+log_answer stands tables s log p (PositionTooLarge name) asks = large asks.1 asks.2 (ap (λ n. PositionTooLarge n) asks.0)
+log_answer stands tables s log p Memory asks = absurd asks
+log_answer stands tables s log p Usage asks = absurd asks
+log_answer stands tables s log p (BadFrame number frame_why) asks = absurd asks
+log_answer stands tables s log p (Request fault) asks = absurd asks
+log_answer stands tables s log p (UnknownShard name) asks = absurd asks
+log_answer stands tables s log p (FeedFault name) asks = absurd asks
+log_answer stands tables s log p LinkFault asks = absurd asks
+log_answer stands tables s log p InputFault asks = absurd asks
+log_answer stands tables s log p (OpenFault name) asks = absurd asks
+log_answer stands tables s log p (BadSchema name line) asks = absurd asks
 
 -- where a GTID event stands at one place, one fault ends a stream
-abbrev StandsOnce : (Gtid → ℕ → Type 0) → Type 0
+abbrev pub StandsOnce : (Gtid → ℕ → Type 0) → Type 0
 StandsOnce stands = (g : Gtid) (at other : ℕ) → stands g at → stands g other → at ≡ other
 
-one_end : (stands : Gtid → ℕ → Type 0) → StandsOnce stands → (own : Option (ℕ × Why)) (first : Option Entry) (a b : Option (ℕ × Why)) → StreamEndsAt stands own first a → StreamEndsAt stands own first b → a ≡ b
-one_end stands once own None a b is too = is ∙ sym too
-one_end stands once own (Some e) a b (m, here, is) (n, there, too) = is ∙ ap (λ k. Some (k, NotBuilt)) (once e.gtid m n here there) ∙ sym too
+one_size : (o : Option ℕ) (n m : ℕ) → o ≡ Some n → o ≡ Some m → n ≡ m
+one_size o n m p q = let both : ◌≡◌ {A = Option ℕ} (Some n) (Some m) = sym p ∙ q in cc
 
-one_answer : (stands : Gtid → ℕ → Type 0) → StandsOnce stands → (s : ShardName) (log : Log) (start : Start) (a b : Status) → LogAnswer stands s log start a → LogAnswer stands s log start b → a ≡ b
-one_answer stands once s log start a b (ends can f end is) (ends more g last too) =
-    is ∙ ap (λ x. end_status s x) (one_end stands once log.fault (first_unbuilt (counted log start)) f g end last) ∙ sym too
-one_answer stands once s log start a b (ends can f end is) (purged p missing at first too) = absurd (none_purged log start p missing can at first)
-one_answer stands once s log start a b (ends can f end is) (large p at base over too) = absurd (none_large log start p can at over)
-one_answer stands once s log start a b (purged p missing at first is) (ends can f end too) = absurd (none_purged log start p missing can at first)
-one_answer stands once s log start a b (purged p missing at first is) (purged q lost here least too) =
-    is ∙ ap (λ g. Purged s g) (one_missing log.base q missing lost (subst (λ x. IsFirstMissing log.base x missing) (same_at start p q at here) first) least) ∙ sym too
-one_answer stands once s log start a b (purged p missing at first is) (large q here base over too) = absurd (not_subset log.base p missing first (subst (λ x. IsSubset log.base x) (same_at start q p here at) base))
-one_answer stands once s log start a b (large p at base over is) (ends can f end too) = absurd (none_large log start p can at over)
-one_answer stands once s log start a b (large p at base over is) (purged q missing here first too) = absurd (not_subset log.base q missing first (subst (λ x. IsSubset log.base x) (same_at start p q at here) base))
-one_answer stands once s log start a b (large p at base over is) (large q here more far too) = is ∙ sym too
+same_size : (tables : List Picked) (s : ShardName) (e : Entry) (a b : ℕ) → IsOversized tables s e a → IsOversized tables s e b → a ≡ b
+same_size tables s e a b (n, p, is) (m, q, too) = is ∙ ap (λ k. min k (2 ^ 64 - 1)) (one_size (size_over tables s e) n m p q) ∙ sym too
+
+one_end : (stands : Gtid → ℕ → Type 0) → StandsOnce stands → (tables : List Picked) (s : ShardName) (own : Option (ℕ × Why)) (first : Option Entry) (a b : Option (ℕ × Why)) →
+    StreamEndsAt stands tables s own first a → StreamEndsAt stands tables s own first b → a ≡ b
+one_end stands once tables s own None a b is too = is ∙ sym too
+one_end stands once tables s own (Some e) a b (m, size, here, is) (n, other, there, too) =
+    is ∙ ap (λ k. Some (k, TooLarge size)) (once e.gtid m n here.0 there.0) ∙ ap (λ k. Some (n, TooLarge k)) (same_size tables s e size other here.1 there.1) ∙ sym too
+
+pub one_answer : (stands : Gtid → ℕ → Type 0) → StandsOnce stands → (tables : List Picked) (s : ShardName) (log : Log) (p : Position) (a b : Status) → LogAnswer stands tables s log p a → LogAnswer stands tables s log p b → a ≡ b
+one_answer stands once tables s log p a b (ends can f end is) (ends more g last too) =
+    is ∙ ap (λ x. end_status s x) (one_end stands once tables s log.fault (first_oversized tables s (after log p)) f g end last) ∙ sym too
+one_answer stands once tables s log p a b (ends can f end is) (purged missing first too) = absurd (not_subset log.base p missing first can.base)
+one_answer stands once tables s log p a b (ends can f end is) (large base over too) = absurd (can.room over)
+one_answer stands once tables s log p a b (purged missing first is) (ends can f end too) = absurd (not_subset log.base p missing first can.base)
+one_answer stands once tables s log p a b (purged missing first is) (purged lost least too) = is ∙ ap (λ g. Purged s g) (one_missing log.base p missing lost first least) ∙ sym too
+one_answer stands once tables s log p a b (purged missing first is) (large base over too) = absurd (not_subset log.base p missing first base)
+one_answer stands once tables s log p a b (large base over is) (ends can f end too) = absurd (can.room over)
+one_answer stands once tables s log p a b (large base over is) (purged missing first too) = absurd (not_subset log.base p missing first base)
+one_answer stands once tables s log p a b (large base over is) (large more far too) = is ∙ sym too
+
+-- what may come is what is owed
+one_owed : (stands : Gtid → ℕ → Type 0) → StandsOnce stands → (tables : List Picked) (s : ShardName) (log : Log) (start : Start) (a b : Status) → LogAsksFor stands tables s log start a → LogOwes stands tables s log start b → a ≡ b
+one_owed stands once tables s log start a b (p, from, for) owes =
+    one_answer stands once tables s log p a b (log_answer stands tables s log p a for) (log_answer stands tables s log p b (owes p from))
 
 -- a schema text that reads isn't refused
 pub read_or_refused : (text : List ℕ) (schema : Schema) (line : ℕ) → schema_of text ≡ Ok schema → schema_of text ≡ Err (refusal.BadSchema line) → ⊥
@@ -171,17 +173,17 @@ one_unbound rules schema other i j why more same p q =
     ap (λ w. Request (status_fault.Unbound i w)) a.is ∙ ap unbound_end (sym a.first ∙ ap (λ t. first_unbound rules t) same ∙ b.first) ∙ ap (λ w. Request (status_fault.Unbound j w)) (sym b.is)
 
 -- which of three a shard asks for
-pub data ShardAnswer (shard : Shard) (s : ShardName) (start : Start) (rules : List Meant) (status : Status) : Type 0 where
-  unread_schema : (line : ℕ) → schema_of shard.schema ≡ Err (refusal.BadSchema line) → status ≡ BadSchema s line → ShardAnswer shard s start rules status
-  unbound_rule : (index : ℕ) (why : SelectRefusal) → IsUnboundIn (Some shard) rules index why → status ≡ Request (status_fault.Unbound index why) → ShardAnswer shard s start rules status
-  by_log : AsksByItsLog shard s start rules status → ShardAnswer shard s start rules status
+pub data ShardAnswer (ask : (Gtid → ℕ → Type 0) → List Picked → ShardName → Log → Start → Status → Type 0) (shard : Shard) (s : ShardName) (start : Start) (rules : List Meant) (status : Status) : Type 0 where
+  unread_schema : (line : ℕ) → schema_of shard.schema ≡ Err (refusal.BadSchema line) → status ≡ BadSchema s line → ShardAnswer ask shard s start rules status
+  unbound_rule : (index : ℕ) (why : SelectRefusal) → IsUnboundIn (Some shard) rules index why → status ≡ Request (status_fault.Unbound index why) → ShardAnswer ask shard s start rules status
+  by_log : AsksByItsLog ask shard s start rules status → ShardAnswer ask shard s start rules status
 
-pub shard_answer : (shard : Shard) (s : ShardName) (start : Start) (rules : List Meant) (status : Status) → ShardAsksFor (Some shard) s start rules status → ShardAnswer shard s start rules status
-shard_answer shard s start rules status (◌⊎◌.inl (line, cut, is)) = unread_schema line cut is
-shard_answer shard s start rules status (◌⊎◌.inr (◌⊎◌.inl (index, why, is, says))) = unbound_rule index why is says
-shard_answer shard s start rules status (◌⊎◌.inr (◌⊎◌.inr by)) = by_log by
+pub shard_answer : (ask : (Gtid → ℕ → Type 0) → List Picked → ShardName → Log → Start → Status → Type 0) (shard : Shard) (s : ShardName) (start : Start) (rules : List Meant) (status : Status) → ShardAsksFor ask (Some shard) s start rules status → ShardAnswer ask shard s start rules status
+shard_answer ask shard s start rules status (◌⊎◌.inl (line, cut, is)) = unread_schema line cut is
+shard_answer ask shard s start rules status (◌⊎◌.inr (◌⊎◌.inl (index, why, is, says))) = unbound_rule index why is says
+shard_answer ask shard s start rules status (◌⊎◌.inr (◌⊎◌.inr by)) = by_log by
 
-one_of_answers : Laws → (shard : Shard) (s : ShardName) (start : Start) (rules : List Meant) (a b : Status) → ShardAnswer shard s start rules a → ShardAnswer shard s start rules b → a ≡ b
+one_of_answers : Laws → (shard : Shard) (s : ShardName) (start : Start) (rules : List Meant) (a b : Status) → ShardAnswer LogAsksFor shard s start rules a → ShardAnswer LogOwes shard s start rules b → a ≡ b
 one_of_answers laws shard s start rules a b (unread_schema line cut is) (unread_schema other again too) =
     let both : ◌≡◌ {A = Result Schema SchemaRefusal} (Err (refusal.BadSchema line)) (Err (refusal.BadSchema other)) = sym cut ∙ again in
     let same : line ≡ other = cc in
@@ -198,69 +200,70 @@ one_of_answers laws shard s start rules a b (by_log (other, again, binds, asks))
     absurd (bound_or_not rules other.tables index why binds (subst (λ (x : Schema). UnboundIs rules x.tables (filters.Unbound index why)) (one_schema shard.schema schema other reads again) p))
 one_of_answers laws shard s start rules a b (by_log (schema, reads, binds, p)) (by_log (other, again, more, q)) =
     let log : Log = shard_log s shard.schema shard.log in
-    one_answer (shard_places s shard.schema shard.log) (laws.places (shard_rules s shard.schema) shard.log).begins s log start a b
-    (log_answer (shard_places s shard.schema shard.log) s log start a p) (log_answer (shard_places s shard.schema shard.log) s log start b q)
+    one_owed (shard_places s shard.schema shard.log) (laws.places (shard_rules s shard.schema) shard.log).begins (picked_by rules schema.tables) s log start a b p
+    (subst (λ (x : Schema). LogOwes (shard_places s shard.schema shard.log) (picked_by rules x.tables) s log start b) (one_schema shard.schema other schema again reads) q)
 
-one_of_shard : Laws → (shard : Option Shard) (s : ShardName) (start : Start) (rules : List Meant) (a b : Status) → ShardAsksFor shard s start rules a → ShardAsksFor shard s start rules b → a ≡ b
+one_of_shard : Laws → (shard : Option Shard) (s : ShardName) (start : Start) (rules : List Meant) (a b : Status) → ShardAsksFor LogAsksFor shard s start rules a → ShardAsksFor LogOwes shard s start rules b → a ≡ b
 one_of_shard laws None s start rules a b p q = p ∙ sym q
-one_of_shard laws (Some shard) s start rules a b p q = one_of_answers laws shard s start rules a b (shard_answer shard s start rules a p) (shard_answer shard s start rules b q)
+one_of_shard laws (Some shard) s start rules a b p q = one_of_answers laws shard s start rules a b (shard_answer LogAsksFor shard s start rules a p) (shard_answer LogOwes shard s start rules b q)
 
 -- ---- an input asks for one answer
 
 -- the input is refused, or asks for a shard, which asks for the answer
-pub data DueAnswer (cluster : ClusterBytes) (input : List ℕ) (status : Status) : Type 0 where
-  refused : (fault : RequestFault) → IsFaultOf input fault → status ≡ Request fault → DueAnswer cluster input status
-  asked : (name : ShardName) (start : Start) (rules : List RuleText) → Asks input name start rules → ShardAsksFor (find_shard cluster name) name start (map meant_by rules) status → DueAnswer cluster input status
+pub data DueAnswer (ask : (Gtid → ℕ → Type 0) → List Picked → ShardName → Log → Start → Status → Type 0) (cluster : ClusterBytes) (input : List ℕ) (status : Status) : Type 0 where
+  refused : (fault : RequestFault) → IsFaultOf input fault → status ≡ Request fault → DueAnswer ask cluster input status
+  asked : (name : ShardName) (start : Start) (rules : List RuleText) → Asks input name start rules → ShardAsksFor ask (find_shard cluster name) name start (map meant_by rules) status → DueAnswer ask cluster input status
 
-of_log : (cluster : ClusterBytes) (input : List ℕ) (status : Status) → AnswersLog cluster input status → DueAnswer cluster input status
-of_log cluster input status (name, start, rules, shard, asks, found, by) =
-    asked name start rules asks (subst (λ o. ShardAsksFor o name start (map meant_by rules) status) (sym found) (◌⊎◌.inr (◌⊎◌.inr by)))
+of_log : (ask : (Gtid → ℕ → Type 0) → List Picked → ShardName → Log → Start → Status → Type 0) (cluster : ClusterBytes) (input : List ℕ) (status : Status) → AnswersBy ask cluster input status → DueAnswer ask cluster input status
+of_log ask cluster input status (name, start, rules, shard, asks, found, by) =
+    asked name start rules asks (subst (λ o. ShardAsksFor ask o name start (map meant_by rules) status) (sym found) (◌⊎◌.inr (◌⊎◌.inr by)))
 
-pub unbound_asks : (shard : Option Shard) (s : ShardName) (start : Start) (rules : List Meant) (index : ℕ) (why : SelectRefusal) → IsUnboundIn shard rules index why →
-    ShardAsksFor shard s start rules (Request (status_fault.Unbound index why))
-unbound_asks None s start rules index why is = absurd is
-unbound_asks (Some shard) s start rules index why is = ◌⊎◌.inr (◌⊎◌.inl (index, why, is, refl))
+pub unbound_asks : (ask : (Gtid → ℕ → Type 0) → List Picked → ShardName → Log → Start → Status → Type 0) (shard : Option Shard) (s : ShardName) (start : Start) (rules : List Meant) (index : ℕ) (why : SelectRefusal) → IsUnboundIn shard rules index why →
+    ShardAsksFor ask shard s start rules (Request (status_fault.Unbound index why))
+unbound_asks ask None s start rules index why is = absurd is
+unbound_asks ask (Some shard) s start rules index why is = ◌⊎◌.inr (◌⊎◌.inl (index, why, is, refl))
 
-of_fault : (cluster : ClusterBytes) (input : List ℕ) (fault : RequestFault) → IsFaultDue cluster input fault → DueAnswer cluster input (Request fault)
-of_fault cluster input fault (◌⊎◌.inl is) = refused fault is refl
-of_fault cluster input fault (◌⊎◌.inr (index, why, is, (name, start, rules, asks, not))) =
-    asked name start rules asks (subst (λ f. ShardAsksFor (find_shard cluster name) name start (map meant_by rules) (Request f)) (sym is) (unbound_asks (find_shard cluster name) name start (map meant_by rules) index why not))
+of_fault : (ask : (Gtid → ℕ → Type 0) → List Picked → ShardName → Log → Start → Status → Type 0) (cluster : ClusterBytes) (input : List ℕ) (fault : RequestFault) → IsFaultDue cluster input fault → DueAnswer ask cluster input (Request fault)
+of_fault ask cluster input fault (◌⊎◌.inl is) = refused fault is refl
+of_fault ask cluster input fault (◌⊎◌.inr (index, why, is, (name, start, rules, asks, not))) =
+    asked name start rules asks (subst (λ f. ShardAsksFor ask (find_shard cluster name) name start (map meant_by rules) (Request f)) (sym is) (unbound_asks ask (find_shard cluster name) name start (map meant_by rules) index why not))
 
-pub due_answer : (cluster : ClusterBytes) (input : List ℕ) (status : Status) → IsDue cluster input status → DueAnswer cluster input status
-due_answer cluster input (Request fault) due = of_fault cluster input fault due
-due_answer cluster input (UnknownShard name) (start, rules, asks, absent) =
-    asked name start rules asks (subst (λ o. ShardAsksFor o name start (map meant_by rules) (UnknownShard name)) (sym absent) refl)
-due_answer cluster input (BadSchema name line) (start, rules, shard, asks, found, cut) =
-    asked name start rules asks (subst (λ o. ShardAsksFor o name start (map meant_by rules) (BadSchema name line)) (sym found) (◌⊎◌.inl (line, cut, refl)))
-due_answer cluster input Done due = of_log cluster input Done due
-due_answer cluster input Memory due = of_log cluster input Memory due
-due_answer cluster input Usage due = of_log cluster input Usage due
-due_answer cluster input (BadFrame number frame_why) due = of_log cluster input (BadFrame number frame_why) due
-due_answer cluster input (Purged name missing) due = of_log cluster input (Purged name missing) due
-due_answer cluster input (BadLog name offset why) due = of_log cluster input (BadLog name offset why) due
-due_answer cluster input (FeedFault name) due = of_log cluster input (FeedFault name) due
-due_answer cluster input LinkFault due = of_log cluster input LinkFault due
-due_answer cluster input InputFault due = of_log cluster input InputFault due
-due_answer cluster input (OpenFault name) due = of_log cluster input (OpenFault name) due
-due_answer cluster input (PositionTooLarge name) due = of_log cluster input (PositionTooLarge name) due
+pub due_answer : (ask : (Gtid → ℕ → Type 0) → List Picked → ShardName → Log → Start → Status → Type 0) (cluster : ClusterBytes) (input : List ℕ) (status : Status) → IsDueBy ask cluster input status → DueAnswer ask cluster input status
+due_answer ask cluster input (Request fault) due = of_fault ask cluster input fault due
+due_answer ask cluster input (UnknownShard name) (start, rules, asks, absent) =
+    asked name start rules asks (subst (λ o. ShardAsksFor ask o name start (map meant_by rules) (UnknownShard name)) (sym absent) refl)
+due_answer ask cluster input (BadSchema name line) (start, rules, shard, asks, found, cut) =
+    asked name start rules asks (subst (λ o. ShardAsksFor ask o name start (map meant_by rules) (BadSchema name line)) (sym found) (◌⊎◌.inl (line, cut, refl)))
+due_answer ask cluster input Done due = of_log ask cluster input Done due
+due_answer ask cluster input Memory due = of_log ask cluster input Memory due
+due_answer ask cluster input Usage due = of_log ask cluster input Usage due
+due_answer ask cluster input (BadFrame number frame_why) due = of_log ask cluster input (BadFrame number frame_why) due
+due_answer ask cluster input (Purged name missing) due = of_log ask cluster input (Purged name missing) due
+due_answer ask cluster input (BadLog name offset why) due = of_log ask cluster input (BadLog name offset why) due
+due_answer ask cluster input (FeedFault name) due = of_log ask cluster input (FeedFault name) due
+due_answer ask cluster input LinkFault due = of_log ask cluster input LinkFault due
+due_answer ask cluster input InputFault due = of_log ask cluster input InputFault due
+due_answer ask cluster input (OpenFault name) due = of_log ask cluster input (OpenFault name) due
+due_answer ask cluster input (PositionTooLarge name) due = of_log ask cluster input (PositionTooLarge name) due
 
 -- what one ask asks for, another one asks for too
-pub asked_again : Laws → (cluster : ClusterBytes) (input : List ℕ) (n m : ShardName) (s t : Start) (r u : List RuleText) (status : Status) → Asks input n s r → Asks input m t u →
-    ShardAsksFor (find_shard cluster n) n s (map meant_by r) status → ShardAsksFor (find_shard cluster m) m t (map meant_by u) status
-asked_again laws cluster input n m s t r u status asks too for =
+pub asked_again : Laws → (ask : (Gtid → ℕ → Type 0) → List Picked → ShardName → Log → Start → Status → Type 0) (cluster : ClusterBytes) (input : List ℕ) (n m : ShardName) (s t : Start) (r u : List RuleText) (status : Status) → Asks input n s r → Asks input m t u →
+    ShardAsksFor ask (find_shard cluster n) n s (map meant_by r) status → ShardAsksFor ask (find_shard cluster m) m t (map meant_by u) status
+asked_again laws ask cluster input n m s t r u status asks too for =
     let same = asks_once laws input n m s t r u asks.0 too.0 in
-    subst (λ x. ShardAsksFor (find_shard cluster m) m x (map meant_by u) status) same.1
-    (subst (λ x. ShardAsksFor (find_shard cluster m) m s (map meant_by x) status) same.2 (subst (λ x. ShardAsksFor (find_shard cluster x) x s (map meant_by r) status) same.0 for))
+    subst (λ x. ShardAsksFor ask (find_shard cluster m) m x (map meant_by u) status) same.1
+    (subst (λ x. ShardAsksFor ask (find_shard cluster m) m s (map meant_by x) status) same.2 (subst (λ x. ShardAsksFor ask (find_shard cluster x) x s (map meant_by r) status) same.0 for))
 
-one_due : Laws → (cluster : ClusterBytes) (input : List ℕ) (a b : Status) → DueAnswer cluster input a → DueAnswer cluster input b → a ≡ b
+one_due : Laws → (cluster : ClusterBytes) (input : List ℕ) (a b : Status) → DueAnswer LogAsksFor cluster input a → DueAnswer LogOwes cluster input b → a ≡ b
 one_due laws cluster input a b (refused f p is) (refused g q too) = is ∙ ap (λ x. Request x) (fault_once laws input f g p q) ∙ sym too
 one_due laws cluster input a b (refused f p is) (asked n s r asks for) = absurd (not_asked laws input n s r f asks p)
 one_due laws cluster input a b (asked n s r asks for) (refused f p is) = absurd (not_asked laws input n s r f asks p)
 one_due laws cluster input a b (asked n s r asks for) (asked m t u too more) =
-    one_of_shard laws (find_shard cluster m) m t (map meant_by u) a b (asked_again laws cluster input n m s t r u a asks too for) more
+    one_of_shard laws (find_shard cluster m) m t (map meant_by u) a b (asked_again laws LogAsksFor cluster input n m s t r u a asks too for) more
 
-pub due_once : Laws → (cluster : ClusterBytes) (input : List ℕ) (a b : Status) → IsDue cluster input a → IsDue cluster input b → a ≡ b
-due_once laws cluster input a b p q = one_due laws cluster input a b (due_answer cluster input a p) (due_answer cluster input b q)
+-- what may come is what is owed
+pub due_owed : Laws → (cluster : ClusterBytes) (input : List ℕ) (a b : Status) → IsDue cluster input a → IsOwed cluster input b → a ≡ b
+due_owed laws cluster input a b p q = one_due laws cluster input a b (due_answer LogAsksFor cluster input a p) (due_answer LogOwes cluster input b q)
 
 -- ---- the answer that came
 
@@ -292,13 +295,13 @@ came_told None left status other due is not = tt
 came_told (Some c) None status other due is not = tt
 came_told (Some c) (Some input) status other due is not = came c input status other due is not
 
--- the answer that is due comes, but for one that is brought from outside
-comes : Laws → (cluster : ClusterBytes) (input : List ℕ) (status other : Status) → IsBrought cluster input status ⊎ IsDue cluster input status → IsDue cluster input other → IsOutside status ⊎ (status ≡ other)
-comes laws cluster input status other (◌⊎◌.inl brought) due = ◌⊎◌.inl (brought_outside cluster input status brought)
-comes laws cluster input status other (◌⊎◌.inr came) due = ◌⊎◌.inr (due_once laws cluster input status other came due)
+-- the answer that is owed comes, but for one that is brought from outside
+comes : Laws → (cluster : ClusterBytes) (input : List ℕ) (status other : Status) → IsBrought cluster input status ⊎ IsDue cluster input status → IsOwed cluster input other → IsOutside status ⊎ (status ≡ other)
+comes laws cluster input status other (◌⊎◌.inl brought) owed = ◌⊎◌.inl (brought_outside cluster input status brought)
+comes laws cluster input status other (◌⊎◌.inr came) owed = ◌⊎◌.inr (due_owed laws cluster input status other came owed)
 
 pub comes_told : Laws → (told : Option ClusterBytes) (left : Option (List ℕ)) (status other : Status) → IfSome told (λ c. IfSome left (λ input. IsBrought c input status ⊎ IsDue c input status)) →
-    IfSome told (λ c. IfSome left (λ input. IsDue c input other → IsOutside status ⊎ (status ≡ other)))
+    IfSome told (λ c. IfSome left (λ input. IsOwed c input other → IsOutside status ⊎ (status ≡ other)))
 comes_told laws None left status other due = tt
 comes_told laws (Some c) None status other due = tt
 comes_told laws (Some c) (Some input) status other due = comes laws c input status other due

@@ -105,7 +105,7 @@ HasGiven-all r placed fault h all told = record {
 
 -- ---- what was fetched
 
-schema_read : (text : List ℕ) (schema : Schema) → schema_of text ≡ Ok schema → schema_in text ≡ schema
+pub schema_read : (text : List ℕ) (schema : Schema) → schema_of text ≡ Ok schema → schema_in text ≡ schema
 unfolding schema_in
 schema_read text schema h = ap or_none h
 

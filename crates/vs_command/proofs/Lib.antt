@@ -1,5 +1,5 @@
 pub mod SendLemmas
-pub mod BuiltLemmas
+pub mod SizeLemmas
 pub mod FitLemmas
 pub mod CauseLemmas
 pub mod LegalLemmas

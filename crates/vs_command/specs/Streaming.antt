@@ -1,11 +1,11 @@
 -- What a stream of one shard writes, and what is known where it is done.
-use Rattle.std.specs.Prelude.{◌≡◌, ◌≢◌, ◌⊎◌, ℕ, List, [], ◌∷◌, ◌++◌, map, take, Option, Some, None, Result, Ok, Err}
+use Rattle.std.specs.Prelude.{◌≡◌, ◌≢◌, ◌⊎◌, ℕ, List, [], ◌∷◌, ◌++◌, false, map, take, Option, Some, None, Result, Ok, Err}
 use Rattle.vs_base.specs.declared.Gtid.{Gtid}
 use Rattle.vs_base.specs.declared.ShardName.{ShardName}
 use Rattle.vs_base.specs.declared.rule_text.RuleText.{RuleText}
 use Rattle.vs_base.specs.Picks.{Bound}
 use Rattle.vs_base.specs.declared.Why.{Why}
-use Rattle.vs_base.specs.declared.Why.TheVariants.{NotBuilt}
+use Rattle.vs_base.specs.declared.Why.TheVariants.{TooLarge}
 use Rattle.vs_gtid.specs.declared.Entry.{Entry}
 use Rattle.vs_gtid.specs.Logs.{Log}
 use Rattle.vs_gtid.specs.Missing.{IsFirstMissing}
@@ -17,8 +17,13 @@ use Rattle.vs_schema.specs.declared.refusal.SchemaRefusal.{SchemaRefusal}
 use Rattle.vs_schema.specs.declared.refusal.SchemaRefusal.TheVariants as refusal
 use Rattle.vs_schema.specs.Rules.{schema_of}
 use Rattle.vs_filter.specs.Causes.{UnboundIs}
-use Rattle.vs_filter.specs.Picks.{bound_of}
-use Rattle.vs_filter.specs.Rules.{Meant, first_fault, meant_by}
+use Rattle.vs_filter.specs.Picks.{bound_in}
+use Rattle.vs_filter.specs.Rules.{Meant, first_fault, meant_by, picked_tables}
+use Rattle.vs_filter.specs.declared.bound.Picked.{Picked}
+use Rattle.vs_render.specs.Bodies.{columns_in}
+use Rattle.vs_render.specs.Events.{Telling}
+use Rattle.vs_render.specs.Frames.{frames_bytes}
+use Rattle.vs_base.specs.declared.table.Table.{Table}
 use Rattle.vs_filter.specs.declared.filter.FilterRefusal.TheVariants as filters
 use Rattle.vs_select.specs.declared.refusal.SelectRefusal.{SelectRefusal}
 use Rattle.vs_log.specs.Meaning.{log_meant}
@@ -40,10 +45,9 @@ use Rattle.vs_command.specs.declared.status.Status.{Status}
 use Rattle.vs_command.specs.declared.status.Status.TheVariants.{Done, Memory, Usage, Request, UnknownShard, Purged, BadLog, FeedFault, LinkFault, InputFault, OpenFault, PositionTooLarge, BadSchema, BadFrame}
 use Rattle.vs_command.specs.declared.start.Start.{Start}
 use Rattle.vs_command.specs.declared.start.Start.TheVariants.{At, Current}
-use Rattle.vs_command.specs.Built.{IsFirstUnbuilt, IsNextUnbuilt}
+use Rattle.vs_command.specs.Sizes.{IsNextOversized}
 use Rattle.vs_command.specs.Requests.{Asks}
-use Rattle.vs_command.specs.Sending.{AreSpelled, IsCanonicalAlong, IsNextTooLarge, position_after, vector_at}
-use Rattle.vs_command.specs.Spelling.{frames_bytes}
+use Rattle.vs_command.specs.Sending.{IsCanonicalAlong, IsNextTooLarge, entries_bytes, position_after, vector_at}
 
 -- the schema that was read, or one without tables
 abbrev pub or_none : Result Schema SchemaRefusal → Schema
@@ -75,14 +79,22 @@ places_in (Some shard) s g at = shard_places s shard.schema shard.log g at
 abbrev pub cluster_meant : ClusterBytes → Cluster
 cluster_meant cluster = map (λ shard. (shard.name, shard_log shard.name shard.schema shard.log)) cluster
 
--- what the rules make of the changes of a shard that may be in the cluster, under its schema text
-abbrev pub filter_in : List RuleText → Option Shard → Bound
-filter_in rules None = bound_of rules []
-filter_in rules (Some shard) = bound_of rules (schema_in shard.schema).tables
+-- the tables of a shard that may be in the cluster, by its schema text
+abbrev pub tables_in : Option Shard → List Table
+tables_in None = []
+tables_in (Some shard) = (schema_in shard.schema).tables
+
+-- those of them that the rules pick
+abbrev pub picks_in : List RuleText → Option Shard → List Picked
+picks_in rules shard = picked_tables rules (tables_in shard)
 
 -- the filter of a request over a cluster
 abbrev pub filter_of : List RuleText → ClusterBytes → Filter
-filter_of rules cluster s = filter_in rules (find_shard cluster s)
+filter_of rules cluster s = bound_in (picks_in rules (find_shard cluster s)) (tables_in (find_shard cluster s))
+
+-- what the frames of such a request tell: no journals yet, and of each table the columns that leave
+abbrev pub telling_of : List RuleText → ClusterBytes → Telling
+telling_of rules cluster = record { journals = false; fields = λ s. columns_in (picks_in rules (find_shard cluster s)) }
 
 -- from where a shard is asked for, as the rules of a request have it
 abbrev pub start_at : Start → StartAt
@@ -101,39 +113,35 @@ pub record IsNextDueTooLarge (cluster : Cluster) (s : ShardName) (p : Position) 
   pub is : v ≡ vector_at s q
   pub large : IsNextTooLarge q (due s (log_of cluster s) q)
 
--- The next entry that is due to the shard isn't built, and stands at this place.
-pub record IsNextDueUnbuilt (stands : Gtid → ℕ → Type 0) (cluster : Cluster) (s : ShardName) (p : Position) (v : Vector) (at : ℕ) : Type 0 where
+-- The next entry that is due to the shard has a message over the limit, of so many bytes, and stands at this place.
+pub record IsNextDueOversized (stands : Gtid → ℕ → Type 0) (tables : List Picked) (cluster : Cluster) (s : ShardName) (p : Position) (v : Vector) (at bytes : ℕ) : Type 0 where
   pub base : IsSubset (log_of cluster s).base p
   pub q : Position
   pub is : v ≡ vector_at s q
-  pub unbuilt : IsNextUnbuilt stands (due s (log_of cluster s) q) at
+  pub oversized : IsNextOversized stands tables s (due s (log_of cluster s) q) at bytes
 
--- From the log's end, the first of all entries that isn't built stands at this place.
-abbrev pub IsUnbuiltFromEnd : (Gtid → ℕ → Type 0) → Log → Start → ℕ → Type 0
-IsUnbuiltFromEnd stands log start at = (start ≡ Current) × IsFirstUnbuilt stands log.entries at
-
--- What is wrong with a log: what its bytes say, where all that was due was sent; or what isn't built, where it is due, or anywhere in a log that is streamed from its end, and then nothing was sent.
-abbrev pub HasBadLogCause : (Gtid → ℕ → Type 0) → Cluster → ShardName → Start → Position → List Frame → ℕ → Why → Type 0
-HasBadLogCause stands cluster s start p frames offset why =
+-- What is wrong with a log: what its bytes say, where all that was due was sent; or the next entry that is due has a message over the limit.
+abbrev pub HasBadLogCause : (Gtid → ℕ → Type 0) → List Picked → Cluster → ShardName → Position → List Frame → ℕ → Why → Type 0
+HasBadLogCause stands tables cluster s p frames offset why =
     (((log_of cluster s).fault ≡ Some (offset, why)) × HasSentAll cluster s p (last_vector (vector_at s p) frames))
-    ⊎ ((why ≡ NotBuilt) × (IsNextDueUnbuilt stands cluster s p (last_vector (vector_at s p) frames) offset ⊎ (IsUnbuiltFromEnd stands (log_of cluster s) start offset × (frames ≡ []))))
+    ⊎ ((bytes : ℕ) × (why ≡ TooLarge bytes) × IsNextDueOversized stands tables cluster s p (last_vector (vector_at s p) frames) offset bytes)
 
 -- What an answer says of the shard that was asked for from a position, of its log, and of the vector that the stream came to; of other shards nothing is said here.
-abbrev pub HasCause : (Gtid → ℕ → Type 0) → Cluster → ShardName → Start → Position → List Frame → Status → Type 0
-HasCause stands cluster s start p frames Done = HasSentAll cluster s p (last_vector (vector_at s p) frames) × ((log_of cluster s).fault ≡ None)
-HasCause stands cluster s start p frames (BadLog name offset why) = (name ≡ s) × HasBadLogCause stands cluster s start p frames offset why
-HasCause stands cluster s start p frames (Purged name missing) = (name ≡ s) × IsFirstMissing (log_of cluster s).base p missing × (frames ≡ [])
-HasCause stands cluster s start p frames (PositionTooLarge name) = (name ≡ s) × IsNextDueTooLarge cluster s p (last_vector (vector_at s p) frames)
-HasCause stands cluster s start p frames LinkFault = IsSubset (log_of cluster s).base p
-HasCause stands cluster s start p frames Memory = Unit {0}
-HasCause stands cluster s start p frames Usage = ⊥
-HasCause stands cluster s start p frames (BadFrame number frame_why) = ⊥
-HasCause stands cluster s start p frames (Request fault) = ⊥
-HasCause stands cluster s start p frames (UnknownShard name) = ⊥
-HasCause stands cluster s start p frames (FeedFault name) = ⊥
-HasCause stands cluster s start p frames InputFault = ⊥
-HasCause stands cluster s start p frames (OpenFault name) = ⊥
-HasCause stands cluster s start p frames (BadSchema name line) = ⊥
+abbrev pub HasCause : (Gtid → ℕ → Type 0) → List Picked → Cluster → ShardName → Position → List Frame → Status → Type 0
+HasCause stands tables cluster s p frames Done = HasSentAll cluster s p (last_vector (vector_at s p) frames) × ((log_of cluster s).fault ≡ None)
+HasCause stands tables cluster s p frames (BadLog name offset why) = (name ≡ s) × HasBadLogCause stands tables cluster s p frames offset why
+HasCause stands tables cluster s p frames (Purged name missing) = (name ≡ s) × IsFirstMissing (log_of cluster s).base p missing × (frames ≡ [])
+HasCause stands tables cluster s p frames (PositionTooLarge name) = (name ≡ s) × IsNextDueTooLarge cluster s p (last_vector (vector_at s p) frames)
+HasCause stands tables cluster s p frames LinkFault = IsSubset (log_of cluster s).base p
+HasCause stands tables cluster s p frames Memory = Unit {0}
+HasCause stands tables cluster s p frames Usage = ⊥
+HasCause stands tables cluster s p frames (BadFrame number frame_why) = ⊥
+HasCause stands tables cluster s p frames (Request fault) = ⊥
+HasCause stands tables cluster s p frames (UnknownShard name) = ⊥
+HasCause stands tables cluster s p frames (FeedFault name) = ⊥
+HasCause stands tables cluster s p frames InputFault = ⊥
+HasCause stands tables cluster s p frames (OpenFault name) = ⊥
+HasCause stands tables cluster s p frames (BadSchema name line) = ⊥
 
 -- the faults of rules, which come once a request was read
 abbrev pub IsOfRules : RequestFault → Type 0
@@ -235,10 +243,10 @@ pub record Answers (cluster : ClusterBytes) (name : ShardName) (start : Start) (
   pub at_end : start ≡ Current → (waited → ⊥) → IsPositionAfter (log_of (cluster_meant cluster) name).base (log_of (cluster_meant cluster) name).entries p
   pub legal : Legal (cluster_meant cluster) (filter_of rules cluster) (vector_at name p) frames
   pub bytes : List ℕ
-  pub spelled : frames_bytes frames ≡ Some bytes
+  pub spelled : bytes ≡ frames_bytes (telling_of rules cluster) frames
   pub prefix : IsPrefixOf written bytes
   pub whole : status ≢ LinkFault → written ≡ bytes
-  pub cause : HasCause (places_in (find_shard cluster name) name) (cluster_meant cluster) name start p frames status
+  pub cause : HasCause (places_in (find_shard cluster name) name) (picks_in rules (find_shard cluster name)) (cluster_meant cluster) name p frames status
 
 -- A shard was asked for: no stream of it began, and nothing was written; or what was written answers.
 pub data Outcome (cluster : ClusterBytes) (name : ShardName) (start : Start) (rules : List RuleText) (waited : Type 0) (status : Status) (written : List ℕ) : Type 0 where
@@ -251,46 +259,44 @@ IsStart log (At set) whole p = p ≡ set
 IsStart log Current whole p = (m : ℕ) × IsPositionAfter log.base (take m log.entries) p × (whole → take m log.entries ≡ log.entries)
 
 -- what is wrong with a log, by what was sent of it
-abbrev pub HasFault : (Gtid → ℕ → Type 0) → Log → Start → Position → List Entry → List Entry → ℕ → Why → Type 0
-HasFault stands log start p sent rest offset why =
+abbrev pub HasFault : (Gtid → ℕ → Type 0) → List Picked → ShardName → Log → Position → List Entry → ℕ → Why → Type 0
+HasFault stands tables s log p rest offset why =
     ((log.fault ≡ Some (offset, why)) × (rest ≡ []) × IsSubset log.base p)
-    ⊎ ((why ≡ NotBuilt) × ((IsNextUnbuilt stands rest offset × IsSubset log.base p) ⊎ (IsUnbuiltFromEnd stands log start offset × (sent ≡ []))))
+    ⊎ ((bytes : ℕ) × (why ≡ TooLarge bytes) × IsNextOversized stands tables s rest offset bytes × IsSubset log.base p)
 
 -- What an answer about the log of a shard says of it, and of the entries that were sent and those left; the other answers are none about a log.
-abbrev pub HasLogCause : (Gtid → ℕ → Type 0) → ShardName → Log → Start → Position → List Entry → List Entry → Status → Type 0
-HasLogCause stands s log start p sent rest Done = (rest ≡ []) × IsSubset log.base p × (log.fault ≡ None)
-HasLogCause stands s log start p sent rest (BadLog name offset why) = (name ≡ s) × HasFault stands log start p sent rest offset why
-HasLogCause stands s log start p sent rest (Purged name missing) = (name ≡ s) × IsFirstMissing log.base p missing × (sent ≡ [])
-HasLogCause stands s log start p sent rest (PositionTooLarge name) = (name ≡ s) × IsNextTooLarge (position_after p sent) rest × IsSubset log.base p
-HasLogCause stands s log start p sent rest LinkFault = IsSubset log.base p
-HasLogCause stands s log start p sent rest Memory = Unit {0}
-HasLogCause stands s log start p sent rest Usage = ⊥
-HasLogCause stands s log start p sent rest (BadFrame number frame_why) = ⊥
-HasLogCause stands s log start p sent rest (Request fault) = ⊥
-HasLogCause stands s log start p sent rest (UnknownShard name) = ⊥
-HasLogCause stands s log start p sent rest (FeedFault name) = ⊥
-HasLogCause stands s log start p sent rest InputFault = ⊥
-HasLogCause stands s log start p sent rest (OpenFault name) = ⊥
-HasLogCause stands s log start p sent rest (BadSchema name line) = ⊥
+abbrev pub HasLogCause : (Gtid → ℕ → Type 0) → List Picked → ShardName → Log → Position → List Entry → List Entry → Status → Type 0
+HasLogCause stands tables s log p sent rest Done = (rest ≡ []) × IsSubset log.base p × (log.fault ≡ None)
+HasLogCause stands tables s log p sent rest (BadLog name offset why) = (name ≡ s) × HasFault stands tables s log p rest offset why
+HasLogCause stands tables s log p sent rest (Purged name missing) = (name ≡ s) × IsFirstMissing log.base p missing × (sent ≡ [])
+HasLogCause stands tables s log p sent rest (PositionTooLarge name) = (name ≡ s) × IsNextTooLarge (position_after p sent) rest × IsSubset log.base p
+HasLogCause stands tables s log p sent rest LinkFault = IsSubset log.base p
+HasLogCause stands tables s log p sent rest Memory = Unit {0}
+HasLogCause stands tables s log p sent rest Usage = ⊥
+HasLogCause stands tables s log p sent rest (BadFrame number frame_why) = ⊥
+HasLogCause stands tables s log p sent rest (Request fault) = ⊥
+HasLogCause stands tables s log p sent rest (UnknownShard name) = ⊥
+HasLogCause stands tables s log p sent rest (FeedFault name) = ⊥
+HasLogCause stands tables s log p sent rest InputFault = ⊥
+HasLogCause stands tables s log p sent rest (OpenFault name) = ⊥
+HasLogCause stands tables s log p sent rest (BadSchema name line) = ⊥
 
 -- What was written of a log, from a position: the frames of the first entries that the position lacks, and where the link failed a beginning of them.
-pub record IsStreamed (stands : Gtid → ℕ → Type 0) (s : ShardName) (log : Log) (start : Start) (p : Position) (status : Status) (written : List ℕ) : Type 0 where
+pub record IsStreamed (stands : Gtid → ℕ → Type 0) (tables : List Picked) (s : ShardName) (log : Log) (p : Position) (status : Status) (written : List ℕ) : Type 0 where
   pub sent : List Entry
   pub rest : List Entry
   pub are : after log p ≡ sent ++ rest
-  pub bytes : List ℕ
-  pub spelled : AreSpelled s p sent bytes
   pub canonical : IsCanonicalAlong p sent
-  pub prefix : IsPrefixOf written bytes
-  pub whole : status ≢ LinkFault → written ≡ bytes
+  pub prefix : IsPrefixOf written (entries_bytes tables s p sent)
+  pub whole : status ≢ LinkFault → written ≡ entries_bytes tables s p sent
   pub base : (sent ≡ []) ⊎ IsSubset log.base p
-  pub cause : HasLogCause stands s log start p sent rest status
+  pub cause : HasLogCause stands tables s log p sent rest status
 
 -- a stream of a log from a start, or want of memory before it
-abbrev pub IsStreamedFrom : (Gtid → ℕ → Type 0) → ShardName → Log → Start → Type 0 → Status → List ℕ → Type 0
-IsStreamedFrom stands s log start whole status written =
+abbrev pub IsStreamedFrom : (Gtid → ℕ → Type 0) → List Picked → ShardName → Log → Start → Type 0 → Status → List ℕ → Type 0
+IsStreamedFrom stands tables s log start whole status written =
     ((status ≡ Memory) × (written ≡ []))
-    ⊎ ((p : Position) × IsStart log start whole p × IsCanonical p × IsStreamed stands s log start p status written)
+    ⊎ ((p : Position) × IsStart log start whole p × IsCanonical p × IsStreamed stands tables s log p status written)
 
 -- The headline: what is written answers the request frame at the front of the input, or nothing is written and the answer came before any stream.
 -- `waited` says of a shard that its feed had nothing yet in the call.

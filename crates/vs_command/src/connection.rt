@@ -15,6 +15,7 @@ ghost use Rattle.vs_command.specs.Causes.{
   IsBindingFault,
   IsDue,
   IsOutside,
+  IsOwed,
   RefusesRules,
   RulesAskFor,
   ShardAsksFor,
@@ -45,6 +46,7 @@ use vs_frame::law_front;
 use vs_log::{law_distinct, law_places};
 use vs_model::{law_due, law_frames, law_steps};
 use vs_outside::{Clock, Sink, Source, Tablets};
+use vs_render::law_bodies;
 use vs_request::law_requests;
 use vs_rows::Maps;
 
@@ -60,6 +62,7 @@ fn laws()
     law_places::<Maps>();
     law_front();
     law_requests();
+    law_bodies();
 }
 
 /// Streams a shard of the tablets by the filter of its rules, from a start to the end of its log.
@@ -90,7 +93,7 @@ fn stream_shard<R: Wait, O: Sink, T: Tablets>(
     laws();
     let Asked { name, start, .. } = asked;
     match fetch_log(rt, alloc, tablets, &name, filter) {
-        Ok(Some(shard)) => stream_log(alloc, output, name, start, shard.log),
+        Ok(Some(shard)) => stream_log(alloc, output, name, start, &shard.bound, shard.log),
         Ok(None) => Status::UnknownShard { name },
         Err(FetchEnd::Memory) => Status::Memory,
         Err(FetchEnd::BadSchema { line }) => Status::BadSchema { name, line },
@@ -166,7 +169,7 @@ pub fn connection<R: Wait, I: Source, O: Sink, T: Tablets, C: Clock>(
 
     // when each answer comes
     ensures due { IfSome (T.cluster tablets.old) (λ c. IfSome (I.left input.old) (λ bytes. IsBrought c bytes result ⊎ IsDue c bytes result)) }
-    ensures only { (status : Status) → IfSome (T.cluster tablets.old) (λ c. IfSome (I.left input.old) (λ bytes. IsDue c bytes status → IsOutside result ⊎ (result ≡ status))) }
+    ensures only { (status : Status) → IfSome (T.cluster tablets.old) (λ c. IfSome (I.left input.old) (λ bytes. IsOwed c bytes status → IsOutside result ⊎ (result ≡ status))) }
     ensures stage { (status : Status) → IfSome (T.cluster tablets.old) (λ c. IfSome (I.left input.old) (λ bytes. IsDue c bytes status → stage result ≤ stage status)) }
     ensures request { (fault : RequestFault) → result ≡ Status.Request fault → IsOfInput fault → IfSome (I.left input.old) (λ bytes. IsFaultOf bytes fault) }
     ensures request_when { (fault : RequestFault) → IfSome (I.left input.old) (λ bytes. IsFaultOf bytes fault → IsOutside result ⊎ (result ≡ Status.Request fault)) }

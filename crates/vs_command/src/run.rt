@@ -24,6 +24,7 @@ ghost use Rattle.vs_command.specs.Causes.{
   IsOutside,
   IsUnbound,
   IsUnknown,
+  OwesLog,
 };
 ghost use Rattle.vs_command.specs.Outside.{GoesOn, KeepsUnasked};
 ghost use Rattle.vs_command.specs.Requests.{
@@ -100,13 +101,13 @@ pub fn run<R: Wait, I: Source, O: Sink, T: Tablets, C: Clock>(
     ensures bad_schema { (name : ShardName) (line : ℕ) → result ≡ Status.BadSchema name line → IfSome (T.cluster tablets.old) (λ c. IfSome (I.left input.old) (λ bytes. IsBadSchema c bytes name line)) }
     ensures bad_schema_when { (folder : Items ℕ) (name : ShardName) (line : ℕ) → AreStreamWords words.now folder → IfSome (T.cluster tablets.old) (λ c. IfSome (I.left input.old) (λ bytes. IsBadSchema c bytes name line → IsOutside result ⊎ (result ≡ Status.BadSchema name line))) }
     ensures purged { (name : ShardName) (missing : Gtid) → result ≡ Status.Purged name missing → IfSome (T.cluster tablets.old) (λ c. IfSome (I.left input.old) (λ bytes. AnswersLog c bytes (Status.Purged name missing))) }
-    ensures purged_when { (folder : Items ℕ) (name : ShardName) (missing : Gtid) → AreStreamWords words.now folder → IfSome (T.cluster tablets.old) (λ c. IfSome (I.left input.old) (λ bytes. AnswersLog c bytes (Status.Purged name missing) → IsOutside result ⊎ (result ≡ Status.Purged name missing))) }
+    ensures purged_when { (folder : Items ℕ) (name : ShardName) (missing : Gtid) → AreStreamWords words.now folder → IfSome (T.cluster tablets.old) (λ c. IfSome (I.left input.old) (λ bytes. OwesLog c bytes (Status.Purged name missing) → IsOutside result ⊎ (result ≡ Status.Purged name missing))) }
     ensures bad_log { (name : ShardName) (offset : ℕ) (why : Why) → result ≡ Status.BadLog name offset why → IfSome (T.cluster tablets.old) (λ c. IfSome (I.left input.old) (λ bytes. AnswersLog c bytes (Status.BadLog name offset why))) }
-    ensures bad_log_when { (folder : Items ℕ) (name : ShardName) (offset : ℕ) (why : Why) → AreStreamWords words.now folder → IfSome (T.cluster tablets.old) (λ c. IfSome (I.left input.old) (λ bytes. AnswersLog c bytes (Status.BadLog name offset why) → IsOutside result ⊎ (result ≡ Status.BadLog name offset why))) }
+    ensures bad_log_when { (folder : Items ℕ) (name : ShardName) (offset : ℕ) (why : Why) → AreStreamWords words.now folder → IfSome (T.cluster tablets.old) (λ c. IfSome (I.left input.old) (λ bytes. OwesLog c bytes (Status.BadLog name offset why) → IsOutside result ⊎ (result ≡ Status.BadLog name offset why))) }
     ensures too_large { (name : ShardName) → result ≡ Status.PositionTooLarge name → IfSome (T.cluster tablets.old) (λ c. IfSome (I.left input.old) (λ bytes. AnswersLog c bytes (Status.PositionTooLarge name))) }
-    ensures too_large_when { (folder : Items ℕ) (name : ShardName) → AreStreamWords words.now folder → IfSome (T.cluster tablets.old) (λ c. IfSome (I.left input.old) (λ bytes. AnswersLog c bytes (Status.PositionTooLarge name) → IsOutside result ⊎ (result ≡ Status.PositionTooLarge name))) }
+    ensures too_large_when { (folder : Items ℕ) (name : ShardName) → AreStreamWords words.now folder → IfSome (T.cluster tablets.old) (λ c. IfSome (I.left input.old) (λ bytes. OwesLog c bytes (Status.PositionTooLarge name) → IsOutside result ⊎ (result ≡ Status.PositionTooLarge name))) }
     ensures done { result ≡ Status.Done → IfSome (T.cluster tablets.old) (λ c. IfSome (I.left input.old) (λ bytes. AnswersLog c bytes Status.Done)) }
-    ensures done_when { (folder : Items ℕ) → AreStreamWords words.now folder → IfSome (T.cluster tablets.old) (λ c. IfSome (I.left input.old) (λ bytes. AnswersLog c bytes Status.Done → IsOutside result ⊎ (result ≡ Status.Done))) }
+    ensures done_when { (folder : Items ℕ) → AreStreamWords words.now folder → IfSome (T.cluster tablets.old) (λ c. IfSome (I.left input.old) (λ bytes. OwesLog c bytes Status.Done → IsOutside result ⊎ (result ≡ Status.Done))) }
 
     // what is due, and what is outside
     ensures due { (folder : Items ℕ) → AreStreamWords words.now folder → IfSome (T.cluster tablets.old) (λ c. IfSome (I.left input.old) (λ bytes. IsBrought c bytes result ⊎ IsDue c bytes result)) }

@@ -19,7 +19,7 @@ returns-in-Ok-Some-clause-answers g c =
     let fetched = rw c.in-Ok-Some.field-0-is at c.in-Ok-Some.ensures.log in
     let marked = rw c.in-Ok-Some.field-0-is at c.in-Ok-Some.ensures.marked in
     Writes-streamed c.laws.ensures (g.T.Tablets.cluster c.args.tablets.now) c.args.asked.name c.args.asked.start c.args.asked.rules (map meant_as c.args.filter.now.rules) c.in-Ok-Some.shard.log c.in-Ok-Some.shard.bound.tables _ _ fetched.0 fetched.1 _ _
-    fetched.2 fetched.3 marked c.stream_log.ensures.wrote
+    c.requires fetched.2 fetched.3 marked c.stream_log.ensures.wrote
 
 pub returns-in-Ok-None-clause-answers : goal.returns-in-Ok-None-clause-answers
 returns-in-Ok-None-clause-answers g c =
@@ -75,7 +75,7 @@ returns-in-Err-FeedFault-clause-due g c =
 
 pub returns-in-Ok-Some-clause-sent : goal.returns-in-Ok-Some-clause-sent
 returns-in-Ok-Some-clause-sent g c =
-    Writes-weaken (λ w. IsStreamedFrom (IsPlaced c.in-Ok-Some.shard.log.entries) c.args.asked.name (read_as c.in-Ok-Some.shard.log) c.args.asked.start (c.in-Ok-Some.shard.log.mark ≡ None) c.stream_log.result w)
+    Writes-weaken (λ w. IsStreamedFrom (IsPlaced c.in-Ok-Some.shard.log.entries) c.in-Ok-Some.shard.bound.tables c.args.asked.name (read_as c.in-Ok-Some.shard.log) c.args.asked.start (c.in-Ok-Some.shard.log.mark ≡ None) c.stream_log.result w)
     (λ w. Unit {0}) (g.O.Sink.sent c.args.output.now) (g.O.Sink.sent c.stream_log.new.output) (λ w streamed. tt) c.stream_log.ensures.wrote
 
 pub returns-in-Err-Unbound-clause-answers : goal.returns-in-Err-Unbound-clause-answers

@@ -1,6 +1,6 @@
 use Rattle.std.proofs.Common.{◌≡◌, ◌≤◌, subst}
 use Rattle.std.specs.Prelude.{◌⊎◌, IfSome}
-use Rattle.vs_command.specs.Causes.{IsDue, IsOutside, IsUnbound}
+use Rattle.vs_command.specs.Causes.{IsDue, IsOutside, IsOwed, IsUnbound}
 use Rattle.vs_command.specs.Stages.{IsBrought, stage}
 use Rattle.vs_command.specs.declared.status.RequestFault.TheVariants.{Unbound}
 use Rattle.vs_command.specs.declared.status.Status.TheVariants.{BadSchema, Done, Request, UnknownShard, Purged, BadLog, PositionTooLarge}
@@ -17,32 +17,32 @@ returns-clause-headline g c =
 
 pub returns-clause-unknown_when : goal.returns-clause-unknown_when
 returns-clause-unknown_when g c folder name words =
-    subst (λ t. IfSome t (λ k. IfSome (g.I.Source.left c.args.input.now) (λ input. IsDue k input (UnknownShard name) → IsOutside c.connection.result ⊎ (c.connection.result ≡ (UnknownShard name)))))
+    subst (λ t. IfSome t (λ k. IfSome (g.I.Source.left c.args.input.now) (λ input. IsOwed k input (UnknownShard name) → IsOutside c.connection.result ⊎ (c.connection.result ≡ (UnknownShard name)))))
     c.point.ensures.cluster (c.connection.ensures.only (UnknownShard name))
 
 pub returns-clause-bad_schema_when : goal.returns-clause-bad_schema_when
 returns-clause-bad_schema_when g c folder name line words =
-    subst (λ t. IfSome t (λ k. IfSome (g.I.Source.left c.args.input.now) (λ input. IsDue k input (BadSchema name line) → IsOutside c.connection.result ⊎ (c.connection.result ≡ (BadSchema name line)))))
+    subst (λ t. IfSome t (λ k. IfSome (g.I.Source.left c.args.input.now) (λ input. IsOwed k input (BadSchema name line) → IsOutside c.connection.result ⊎ (c.connection.result ≡ (BadSchema name line)))))
     c.point.ensures.cluster (c.connection.ensures.only (BadSchema name line))
 
 pub returns-clause-purged_when : goal.returns-clause-purged_when
 returns-clause-purged_when g c folder name missing words =
-    subst (λ t. IfSome t (λ k. IfSome (g.I.Source.left c.args.input.now) (λ input. IsDue k input (Purged name missing) → IsOutside c.connection.result ⊎ (c.connection.result ≡ (Purged name missing)))))
+    subst (λ t. IfSome t (λ k. IfSome (g.I.Source.left c.args.input.now) (λ input. IsOwed k input (Purged name missing) → IsOutside c.connection.result ⊎ (c.connection.result ≡ (Purged name missing)))))
     c.point.ensures.cluster (c.connection.ensures.only (Purged name missing))
 
 pub returns-clause-bad_log_when : goal.returns-clause-bad_log_when
 returns-clause-bad_log_when g c folder name offset why words =
-    subst (λ t. IfSome t (λ k. IfSome (g.I.Source.left c.args.input.now) (λ input. IsDue k input (BadLog name offset why) → IsOutside c.connection.result ⊎ (c.connection.result ≡ (BadLog name offset why)))))
+    subst (λ t. IfSome t (λ k. IfSome (g.I.Source.left c.args.input.now) (λ input. IsOwed k input (BadLog name offset why) → IsOutside c.connection.result ⊎ (c.connection.result ≡ (BadLog name offset why)))))
     c.point.ensures.cluster (c.connection.ensures.only (BadLog name offset why))
 
 pub returns-clause-too_large_when : goal.returns-clause-too_large_when
 returns-clause-too_large_when g c folder name words =
-    subst (λ t. IfSome t (λ k. IfSome (g.I.Source.left c.args.input.now) (λ input. IsDue k input (PositionTooLarge name) → IsOutside c.connection.result ⊎ (c.connection.result ≡ (PositionTooLarge name)))))
+    subst (λ t. IfSome t (λ k. IfSome (g.I.Source.left c.args.input.now) (λ input. IsOwed k input (PositionTooLarge name) → IsOutside c.connection.result ⊎ (c.connection.result ≡ (PositionTooLarge name)))))
     c.point.ensures.cluster (c.connection.ensures.only (PositionTooLarge name))
 
 pub returns-clause-done_when : goal.returns-clause-done_when
 returns-clause-done_when g c folder words =
-    subst (λ t. IfSome t (λ k. IfSome (g.I.Source.left c.args.input.now) (λ input. IsDue k input Done → IsOutside c.connection.result ⊎ (c.connection.result ≡ Done))))
+    subst (λ t. IfSome t (λ k. IfSome (g.I.Source.left c.args.input.now) (λ input. IsOwed k input Done → IsOutside c.connection.result ⊎ (c.connection.result ≡ Done))))
     c.point.ensures.cluster (c.connection.ensures.only Done)
 
 pub returns-clause-due : goal.returns-clause-due
