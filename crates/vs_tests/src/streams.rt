@@ -211,7 +211,7 @@ fn the_reason_of_an_end_is_told(rt: HostRuntime) -> Result<(), AllocError> {
     check(&rt, rt.alloc(), &FAULTS)
 }
 
-static CHANGES: [Case<'static>; 7] = [
+static CHANGES: [Case<'static>; 6] = [
     Case {
         what: "a schema text",
         schema: b"column id int",
@@ -227,14 +227,6 @@ static CHANGES: [Case<'static>; 7] = [
         ..CASE
     },
     Case {
-        what: "rows that are due",
-        log: TWO_ROWS,
-        schema: TABLE,
-        number: 6,
-        line: "bad log c/0 at 112: not built",
-        ..CASE
-    },
-    Case {
         what: "rows that are not due",
         input: BEHIND_FIRST,
         log: TWO_ROWS,
@@ -246,8 +238,6 @@ static CHANGES: [Case<'static>; 7] = [
         input: FROM_THE_END,
         log: TWO_ROWS,
         schema: TABLE,
-        number: 6,
-        line: "bad log c/0 at 112: not built",
         ..CASE
     },
     Case {
