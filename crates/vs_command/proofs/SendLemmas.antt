@@ -230,3 +230,15 @@ Writes-ended_early stands tables s p xs rest entries e place (TooLarge at bytes)
     let it = over at bytes refl in
     subst (λ es. Writes before now (λ w. AreSent stands tables s p es (Err (TooLarge at bytes)) w)) (sym are)
     (Writes-oversized stands tables s p xs rest e at bytes before now first (subst (λ n. stands e.gtid n) (sym it.0) there, it.1))
+
+-- ---- the bytes of a frame, and what was written of them
+
+pub Writes-whole : (bytes frame sliced : List ℕ) (p : Position) (g : Gtid) (before now : Option (List ℕ)) → frame ≡ bytes → sliced ≡ frame → IsCanonical (added p g) → Writes before now (λ w. w ≡ sliced) →
+    Writes before now (λ w. IsSentAs bytes p g (Ok tt) w)
+Writes-whole bytes frame sliced p g before now same all canonical wrote =
+    Writes-weaken (λ w. w ≡ sliced) (λ w. IsSentAs bytes p g (Ok tt) w) before now (λ w is. (is ∙ all ∙ same, canonical)) wrote
+
+pub Writes-part : (bytes frame sliced : List ℕ) (p : Position) (g : Gtid) (before now : Option (List ℕ)) → frame ≡ bytes → sliced ≡ frame → IsCanonical (added p g) → Writes before now (λ w. IsPrefixOf w sliced) →
+    Writes before now (λ w. IsSentAs bytes p g (Err LinkFault) w)
+Writes-part bytes frame sliced p g before now same all canonical wrote =
+    Writes-weaken (λ w. IsPrefixOf w sliced) (λ w. IsSentAs bytes p g (Err LinkFault) w) before now (λ w is. (subst (λ l. IsPrefixOf w l) (all ∙ same) is, canonical)) wrote

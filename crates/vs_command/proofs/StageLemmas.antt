@@ -132,8 +132,8 @@ rule_stage : Laws → (input : List ℕ) (name : ShardName) (start : Start) (rul
 rule_stage laws input name start rules fault asks is = go fault (fault_by_rules laws input name start rules fault asks is)
   where
     go : (fault : RequestFault) → IsRuleFault fault → 2 ≤ request_stage fault
-    go fault (index, (◌⊎◌.inl no)) = subst (λ f. 2 ≤ request_stage f) (sym no) (omega arith)
-    go fault (index, (◌⊎◌.inr (at, no))) = subst (λ f. 2 ≤ request_stage f) (sym no) (omega arith)
+    go fault (index, (◌⊎◌.inl same)) = subst (λ f. 2 ≤ request_stage f) (sym same) (omega arith)
+    go fault (index, (◌⊎◌.inr (at, same))) = subst (λ f. 2 ≤ request_stage f) (sym same) (omega arith)
 
 pattern_stage : Laws → (cluster : ClusterBytes) (input : List ℕ) (index : ℕ) (due : Status) → HasPatternIn input index → DueAnswer LogAsksFor cluster input due → 2 ≤ stage due
 pattern_stage laws cluster input index due (name, start, rules, asks, has) (DueAnswer.refused fault is says) = at_stage 2 due (Request fault) says (rule_stage laws input name start rules fault asks is)

@@ -34,6 +34,7 @@ ghost use Rattle.vs_command.specs.Stages.{IsBrought, IsBroughtBy, IsBroughtOn, s
 ghost use Rattle.vs_command.specs.Streaming.{Filtered, Headline, IsOfStream, Outcome};
 
 use crate::fetch::{FetchEnd, fetch_log};
+use crate::fetched::FetchedShard;
 use crate::options::Options;
 use crate::request::{Asked, RequestEnd, read_request};
 use crate::status::{RequestFault, Status};
@@ -93,7 +94,10 @@ fn stream_shard<R: Wait, O: Sink, T: Tablets>(
     laws();
     let Asked { name, start, .. } = asked;
     match fetch_log(rt, alloc, tablets, &name, filter) {
-        Ok(Some(shard)) => stream_log(alloc, output, name, start, &shard.bound, shard.log),
+        Ok(Some(shard)) => {
+            let FetchedShard { log, bound } = shard;
+            stream_log(alloc, output, name, start, &bound, log)
+        }
         Ok(None) => Status::UnknownShard { name },
         Err(FetchEnd::Memory) => Status::Memory,
         Err(FetchEnd::BadSchema { line }) => Status::BadSchema { name, line },

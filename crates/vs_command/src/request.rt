@@ -108,6 +108,7 @@ fn length_in(head: &[u8]) -> Option<u32>
 fn read_frame<I: Source>(alloc: Global, input: &mut I) -> Result<Vec<u8>, RequestEnd>
     ensures frame { IfOk result (λ m. TakesOf (I.left input.old) (I.left input.new) (λ taken rest. (taken ≡ framed m.items) × IsWithinLimit m.items)) }
     ensures fault { (fault : RequestFault) → result ≡ Err (RequestEnd.Fault fault) → TakesOf (I.left input.old) (I.left input.new) (HasEnded fault) }
+    ensures no_pattern { (index : ℕ) → result ≡ Err (RequestEnd.Fault (RequestFault.PatternRefused index)) → ⊥ }
     ensures within { Takes (I.left input.old) (I.left input.new) IsWithinFrame }
     ensures later { I.faults input.old ≤ I.faults input.new }
     ensures failed { result ≡ Err RequestEnd.InputFault → Rose (I.faults input.old) (I.faults input.new) }
@@ -271,6 +272,7 @@ pub fn read_request<I: Source>(alloc: Global, input: &mut I) -> Result<Asked, Re
     ensures asks { IfOk result (λ asked. IfSome (I.left input.old) (λ bytes. AsksBy bytes asked.name asked.start asked.rules)) }
     ensures took { IfOk result (λ _. TakesOf (I.left input.old) (I.left input.new) (λ taken rest. IsRequestFrame taken)) }
     ensures fault { (fault : RequestFault) → result ≡ Err (RequestEnd.Fault fault) → IfSome (I.left input.old) (λ bytes. IsFaultOf bytes fault) }
+    ensures no_pattern { (index : ℕ) → result ≡ Err (RequestEnd.Fault (RequestFault.PatternRefused index)) → ⊥ }
     ensures took_of_fault { (fault : RequestFault) → result ≡ Err (RequestEnd.Fault fault) → TakesOf (I.left input.old) (I.left input.new) (HasTaken fault) }
     ensures within { Takes (I.left input.old) (I.left input.new) IsWithinFrame }
     ensures later { I.faults input.old ≤ I.faults input.new }

@@ -96,11 +96,16 @@ fn body_of(
 {
     match render(alloc, &placed.entry, name, bound, room) {
         Ok(body) => Ok(body),
-        Err((_room, RenderRefusal::TooLarge { bytes })) => Err(SendEnd::TooLarge {
-            offset: placed.at,
-            bytes,
-        }),
-        Err((_room, RenderRefusal::Memory)) => Err(SendEnd::Memory),
+        Err(refused) => {
+            let (_room, refusal) = refused;
+            match refusal {
+                RenderRefusal::TooLarge { bytes } => Err(SendEnd::TooLarge {
+                    offset: placed.at,
+                    bytes,
+                }),
+                RenderRefusal::Memory => Err(SendEnd::Memory),
+            }
+        }
     }
 }
 
@@ -132,10 +137,11 @@ fn send_body<O: Sink>(
         return Err(SendEnd::Memory);
     };
     frame.clear();
-    if put_frame_with(alloc, frame, name, entry.time, &vgtid, body).is_err() {
-        return Err(SendEnd::Memory);
+    match put_frame_with(alloc, frame, name, entry.time, &vgtid, body) {
+        Ok(()) => {}
+        Err(_) => return Err(SendEnd::Memory),
     }
-    match write_all(output, frame) {
+    match write_all(output, frame.as_slice()) {
         Ok(()) => Ok(()),
         Err(Failed) => Err(SendEnd::LinkFault),
     }

@@ -1,5 +1,6 @@
-use Rattle.std.proofs.Common.{Err, ap}
+use Rattle.std.proofs.Common.{◌≡◌, ◌∙◌, Err, ap}
 use Rattle.vs_outside.specs.Counts.{Rose}
+use Rattle.vs_command.specs.declared.request.RequestEnd.TheVariants.{Fault}
 use Rattle.vs_command.specs.declared.status.RequestFault.TheVariants.{PatternRefused}
 use Rattle.vs_command.specs.declared.status.Status.TheVariants.{Request}
 use Rattle.vs_command.proofs.AnswerLemmas.{headline_asked}
@@ -50,8 +51,8 @@ returns-in-Err-Fault-clause-only g c status =
 pub returns-in-Err-Fault-clause-stage : goal.returns-in-Err-Fault-clause-stage
 returns-in-Err-Fault-clause-stage g c status =
     let fault = c.in-Err-Fault.ensures.fault c.in-Err-Fault.fault (ap (λ e. Err e) c.in-Err-Fault.field-0-is) in
-    stage_told c.laws.ensures (g.T.Tablets.cluster c.args.tablets.now) (g.I.Source.left c.args.input.now) (Request c.in-Err-Fault.fault) status
-    (fault_told (g.T.Tablets.cluster c.args.tablets.now) (g.I.Source.left c.args.input.now) c.in-Err-Fault.fault fault)
+    rw c.in-Err-Fault.fault-is (stage_told c.laws.ensures (g.T.Tablets.cluster c.args.tablets.now) (g.I.Source.left c.args.input.now) (Request c.in-Err-Fault.fault) status
+    (fault_told (g.T.Tablets.cluster c.args.tablets.now) (g.I.Source.left c.args.input.now) c.in-Err-Fault.fault fault))
 
 pub returns-in-Err-Fault-clause-request_when : goal.returns-in-Err-Fault-clause-request_when
 returns-in-Err-Fault-clause-request_when g c other =
@@ -81,3 +82,13 @@ returns-in-Ok-clause-patterns g c =
 
 pub returns-in-Ok-clause-taken : goal.returns-in-Ok-clause-taken
 returns-in-Ok-clause-taken g c = has_read (g.I.Source.left c.args.input.now) (g.I.Source.left c.read_request.new.input) c.stream_asked.result c.stream_asked.ensures.kind c.in-Ok.ensures.took
+
+pub returns-in-Err-Fault-clause-refused_pattern : goal.returns-in-Err-Fault-clause-refused_pattern
+returns-in-Err-Fault-clause-refused_pattern g c index is =
+    let same : c.in-Err-Fault.fault ≡ PatternRefused index = cc in
+    absurd (c.in-Err-Fault.ensures.no_pattern index (ap (λ e. Err e) (c.in-Err-Fault.field-0-is ∙ ap (λ f. Fault f) same)))
+
+pub returns-in-Err-Fault-clause-pattern : goal.returns-in-Err-Fault-clause-pattern
+returns-in-Err-Fault-clause-pattern g c index is =
+    let same : c.in-Err-Fault.fault ≡ PatternRefused index = cc in
+    absurd (c.in-Err-Fault.ensures.no_pattern index (ap (λ e. Err e) (c.in-Err-Fault.field-0-is ∙ ap (λ f. Fault f) same)))

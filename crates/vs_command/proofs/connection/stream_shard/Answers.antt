@@ -40,8 +40,8 @@ pub returns-in-Err-OpenFault-clause-answers : goal.returns-in-Err-OpenFault-clau
 returns-in-Err-OpenFault-clause-answers g c =
     Writes-unread (g.T.Tablets.cluster c.args.tablets.now) c.args.asked.name c.args.asked.start c.args.asked.rules _ _ _ (told_always _ (g.T.Tablets.cluster c.args.tablets.now) (λ _. refl))
 
-pub returns-in-Err-FeedFault-clause-answers : goal.returns-in-Err-FeedFault-clause-answers
-returns-in-Err-FeedFault-clause-answers g c =
+pub returns-clause-answers : goal.returns-clause-answers
+returns-clause-answers g c =
     Writes-unread (g.T.Tablets.cluster c.args.tablets.now) c.args.asked.name c.args.asked.start c.args.asked.rules _ _ _ (told_always _ (g.T.Tablets.cluster c.args.tablets.now) (λ _. refl))
 
 pub returns-in-Ok-Some-clause-due : goal.returns-in-Ok-Some-clause-due
@@ -67,8 +67,8 @@ returns-in-Err-BadSchema-clause-due g c =
 pub returns-in-Err-OpenFault-clause-due : goal.returns-in-Err-OpenFault-clause-due
 returns-in-Err-OpenFault-clause-due g c = told_always _ (g.T.Tablets.cluster c.args.tablets.now) (λ _. ◌⊎◌.inl refl)
 
-pub returns-in-Err-FeedFault-clause-due : goal.returns-in-Err-FeedFault-clause-due
-returns-in-Err-FeedFault-clause-due g c =
+pub returns-clause-due : goal.returns-clause-due
+returns-clause-due g c =
     let opened = subst (λ m. IfSome (g.T.Tablets.cluster c.args.tablets.now) (λ k. HasBinding (find_shard k c.args.asked.name) m)) c.requires
         (c.in-Err-FeedFault.ensures.feed_opened (ap (λ e. Err e) c.in-Err-FeedFault.field-0-is)) in
     told_so _ _ (g.T.Tablets.cluster c.args.tablets.now) (λ k p. ◌⊎◌.inl (refl, p)) opened
@@ -82,11 +82,11 @@ pub returns-in-Err-Unbound-clause-answers : goal.returns-in-Err-Unbound-clause-a
 returns-in-Err-Unbound-clause-answers g c =
     let not = subst (λ m. IfSome (g.T.Tablets.cluster c.args.tablets.now) (λ k. IsUnboundIn (find_shard k c.args.asked.name) m c.in-Err-Unbound.index c.in-Err-Unbound.why)) c.requires
         (c.in-Err-Unbound.ensures.unbound c.in-Err-Unbound.index c.in-Err-Unbound.why (ap (λ e. Err e) c.in-Err-Unbound.field-0-is)) in
-    Writes-unread (g.T.Tablets.cluster c.args.tablets.now) c.args.asked.name c.args.asked.start c.args.asked.rules _ (Request (Unbound c.in-Err-Unbound.index c.in-Err-Unbound.why)) _
-    (unread_unbound (g.T.Tablets.cluster c.args.tablets.now) c.args.asked.name (map meant_by c.args.asked.rules) c.in-Err-Unbound.index c.in-Err-Unbound.why not)
+    rw c.in-Err-Unbound.why-is (Writes-unread (g.T.Tablets.cluster c.args.tablets.now) c.args.asked.name c.args.asked.start c.args.asked.rules _ (Request (Unbound c.in-Err-Unbound.index c.in-Err-Unbound.why)) _
+    (unread_unbound (g.T.Tablets.cluster c.args.tablets.now) c.args.asked.name (map meant_by c.args.asked.rules) c.in-Err-Unbound.index c.in-Err-Unbound.why not))
 
 pub returns-in-Err-Unbound-clause-due : goal.returns-in-Err-Unbound-clause-due
 returns-in-Err-Unbound-clause-due g c =
     let not = subst (λ m. IfSome (g.T.Tablets.cluster c.args.tablets.now) (λ k. IsUnboundIn (find_shard k c.args.asked.name) m c.in-Err-Unbound.index c.in-Err-Unbound.why)) c.requires
         (c.in-Err-Unbound.ensures.unbound c.in-Err-Unbound.index c.in-Err-Unbound.why (ap (λ e. Err e) c.in-Err-Unbound.field-0-is)) in
-    due_unbound (g.T.Tablets.cluster c.args.tablets.now) c.args.asked.name c.args.asked.start (map meant_by c.args.asked.rules) c.in-Err-Unbound.index c.in-Err-Unbound.why not
+    rw c.in-Err-Unbound.why-is (due_unbound (g.T.Tablets.cluster c.args.tablets.now) c.args.asked.name c.args.asked.start (map meant_by c.args.asked.rules) c.in-Err-Unbound.index c.in-Err-Unbound.why not)

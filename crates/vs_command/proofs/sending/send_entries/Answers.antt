@@ -42,19 +42,19 @@ returns-in_err-body-clause-oversized g c at bytes told =
 
 pub returns-in_err-send_body-clause-wrote : goal.returns-in_err-send_body-clause-wrote
 returns-in_err-send_body-clause-wrote g c =
-    let p = err_from_is_err_and c.from_residual-2.result c.from_residual-2.ensures.1 in
+    let p = err_from_is_err_and c.from_residual-in_err-send_body.result c.from_residual-in_err-send_body.ensures.1 in
     let inside : c.loop-placed.placed-index < length c.args.entries.now = omega arith in
     let lacks : has c.args.start.now c.placed-item.result.entry.gtid ≡ false = sym c.contains.ensures.has ∙ c.if-contains.false in
     let are = lacking_of-split c.args.start.now c.args.entries.now c.loop-placed.placed-index c.placed-item.result inside c.placed-item.is lacks in
     let cut = Writes-cut_body (IsPlaced c.args.entries.now) c.args.bound.now.tables c.args.name.now c.args.start.now c.loop-placed.position (lacking c.args.start.now (entries_of (take c.loop-placed.placed-index c.args.entries.now)))
     (lacking c.args.start.now (entries_of (drop (suc c.loop-placed.placed-index) c.args.entries.now))) c.placed-item.result.entry c.in_ok-body.body.body c.in_err-send_body.field-0.0 _ _ _
     c.in_ok-body.ensures.body c.loop-placed.invariant.position c.loop-placed.invariant.wrote c.in_err-send_body.ensures.wrote in
-    let is : c.from_residual-2.result ≡ Err c.in_err-send_body.field-0.0 = p.1 ∙ ap (λ x. Err x) p.2 in
+    let is : c.from_residual-in_err-send_body.result ≡ Err c.in_err-send_body.field-0.0 = p.1 ∙ ap (λ x. Err x) p.2 in
     rw is (subst (λ es. Writes (g.O.Sink.sent c.args.output.now) (g.O.Sink.sent c.send_body.new.output) (λ w. AreSent (IsPlaced c.args.entries.now) c.args.bound.now.tables c.args.name.now c.args.start.now es (Err c.in_err-send_body.field-0.0) w)) (sym are) cut)
 
 pub returns-in_err-send_body-clause-large : goal.returns-in_err-send_body-clause-large
 returns-in_err-send_body-clause-large g c large =
-    let p = err_from_is_err_and c.from_residual-2.result c.from_residual-2.ensures.1 in
+    let p = err_from_is_err_and c.from_residual-in_err-send_body.result c.from_residual-in_err-send_body.ensures.1 in
     let inside : c.loop-placed.placed-index < length c.args.entries.now = omega arith in
     let lacks : has c.args.start.now c.placed-item.result.entry.gtid ≡ false = sym c.contains.ensures.has ∙ c.if-contains.false in
     let is : Err p.0 ≡ Err PositionTooLarge = sym p.1 ∙ large in
