@@ -1,4 +1,5 @@
 use Rattle.std.proofs.Common.{◌≡◌, ◌+◌, Err, ◌<◌, ◌≤◌, false, length, take, drop, subst, sym, ◌∙◌, ap, arith, suc, List, ◌++◌, ◌∷◌, []}
+use Rattle.std.proofs.lemmas.List.{take_all}
 use Rattle.std.proofs.lemmas.Result.{err_from_is_err_and}
 use Rattle.vs_gtid.specs.declared.Entry.{Entry}
 use Rattle.vs_gtid.specs.Positions.{has}
@@ -9,7 +10,7 @@ use Rattle.vs_command.specs.Fetched.{IsPlaced, entries_of}
 use Rattle.vs_command.specs.Sending.{AreSent, lacking}
 use Rattle.vs_command.proofs.SizeLemmas.{AreSendable-more, lacking_of-next, lacking_of-split, placed_at, stops_at, too_large_at}
 use Rattle.vs_command.proofs.FitLemmas.{FitAlong-more}
-use Rattle.vs_command.proofs.SendLemmas.{Writes-body, Writes-cut_body, Writes-ended_early, Writes-unsent, position_after-more}
+use Rattle.vs_command.proofs.SendLemmas.{Writes-body, Writes-cut_body, Writes-ended_early, Writes-sent, Writes-unsent, position_after-more}
 use Rattle.vs_command.proofs.sending.send_entries.Goals as goal
 
 pub returns-in_default-clause-wrote : goal.returns-in_default-clause-wrote
@@ -79,3 +80,19 @@ loop-placed-preserved g c =
           (subst (λ q. length (added q c.placed-item.result.entry.gtid) ≤ 1024) c.loop-placed.invariant.position c.in_ok-send_body.ensures.fits));
       later = omega (arith, c.in_ok-send_body.ensures.later, c.loop-placed.invariant.later);
     }
+
+pub returns-in_default-new_room-clause-wrote : goal.returns-in_default-new_room-clause-wrote
+returns-in_default-new_room-clause-wrote g c =
+    Writes-unsent (IsPlaced c.args.entries.now) c.args.bound.now.tables c.args.name.now c.args.start.now (lacking c.args.start.now (entries_of c.args.entries.now)) (g.O.Sink.sent c.args.output.now)
+
+pub returns-in_err-send_body-clause-oversized : goal.returns-in_err-send_body-clause-oversized
+returns-in_err-send_body-clause-oversized g c at bytes told =
+    let p = err_from_is_err_and c.from_residual-in_err-send_body.result c.from_residual-in_err-send_body.ensures.1 in
+    let is : Err p.0 ≡ Err (TooLarge at bytes) = sym p.1 ∙ told in
+    let same : c.in_err-send_body.field-0.0 ≡ TooLarge at bytes = cc in
+    absurd (c.in_err-send_body.ensures.sized at bytes (ap (λ x. Err x) same))
+
+pub returns-clause-wrote : goal.returns-clause-wrote
+returns-clause-wrote g c =
+    Writes-sent (IsPlaced c.args.entries.now) c.args.bound.now.tables c.args.name.now c.args.start.now (lacking c.args.start.now (entries_of (take c.loop-placed.placed-index c.args.entries.now)))
+    (lacking c.args.start.now (entries_of c.args.entries.now)) _ _ (ap (λ es. lacking c.args.start.now (entries_of es)) (take_all c.loop-placed.placed-index c.args.entries.now (omega arith))) c.loop-placed.invariant.wrote
