@@ -82,11 +82,11 @@ pub returns-in-Err-Unbound-clause-answers : goal.returns-in-Err-Unbound-clause-a
 returns-in-Err-Unbound-clause-answers g c =
     let not = subst (λ m. IfSome (g.T.Tablets.cluster c.args.tablets.now) (λ k. IsUnboundIn (find_shard k c.args.asked.name) m c.in-Err-Unbound.index c.in-Err-Unbound.why)) c.requires
         (c.in-Err-Unbound.ensures.unbound c.in-Err-Unbound.index c.in-Err-Unbound.why (ap (λ e. Err e) c.in-Err-Unbound.field-0-is)) in
-    rw c.in-Err-Unbound.why-is (Writes-unread (g.T.Tablets.cluster c.args.tablets.now) c.args.asked.name c.args.asked.start c.args.asked.rules _ (Request (Unbound c.in-Err-Unbound.index c.in-Err-Unbound.why)) _
+    rw (← c.in-Err-Unbound.why-is) (Writes-unread (g.T.Tablets.cluster c.args.tablets.now) c.args.asked.name c.args.asked.start c.args.asked.rules _ (Request (Unbound c.in-Err-Unbound.index c.in-Err-Unbound.why)) _
     (unread_unbound (g.T.Tablets.cluster c.args.tablets.now) c.args.asked.name (map meant_by c.args.asked.rules) c.in-Err-Unbound.index c.in-Err-Unbound.why not))
 
 pub returns-in-Err-Unbound-clause-due : goal.returns-in-Err-Unbound-clause-due
 returns-in-Err-Unbound-clause-due g c =
     let not = subst (λ m. IfSome (g.T.Tablets.cluster c.args.tablets.now) (λ k. IsUnboundIn (find_shard k c.args.asked.name) m c.in-Err-Unbound.index c.in-Err-Unbound.why)) c.requires
         (c.in-Err-Unbound.ensures.unbound c.in-Err-Unbound.index c.in-Err-Unbound.why (ap (λ e. Err e) c.in-Err-Unbound.field-0-is)) in
-    rw c.in-Err-Unbound.why-is (due_unbound (g.T.Tablets.cluster c.args.tablets.now) c.args.asked.name c.args.asked.start (map meant_by c.args.asked.rules) c.in-Err-Unbound.index c.in-Err-Unbound.why not)
+    rw (← c.in-Err-Unbound.why-is) (due_unbound (g.T.Tablets.cluster c.args.tablets.now) c.args.asked.name c.args.asked.start (map meant_by c.args.asked.rules) c.in-Err-Unbound.index c.in-Err-Unbound.why not)
