@@ -1,0 +1,3 @@
+pub mod LastKeys
+pub mod Copying
+pub mod Answers
