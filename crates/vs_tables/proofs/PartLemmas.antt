@@ -1,16 +1,16 @@
 -- Parts of keys are ordered as the keys are.
-use Rattle.std.proofs.Common.{◌≡◌, ℕ, suc, Bool, List, [], ◌∷◌, length, Option, Some, None, refl, ap, ap₂, sym, ◌∙◌, arith}
+use Rattle.std.proofs.Common.{◌≡◌, ℕ, suc, List, [], ◌∷◌, length, Option, Some, None, refl, ap, ap₂, sym, ◌∙◌, arith}
 use Rattle.std.specs.Prelude.{ℤ}
 use Rattle.std.specs.Ordering.{nat_cmp, int_cmp, ordering_then}
 use Rattle.std.specs.FinMap.{IsAntisymmetric, int_cmp-IsAntisymmetric, nat_cmp-IsAntisymmetric, slice_cmp-IsAntisymmetric}
 use Rattle.std.specs.Cmp.{IsTotalOrder}
 use Rattle.std.specs.Cmp.Lexicographic.{lists_total, slice_cmp}
 use Rattle.std.specs.declared.cmp.Ordering.{Ordering}
-use Rattle.std.specs.declared.cmp.Ordering.TheVariants.{Less, Equal, Greater}
+use Rattle.std.specs.declared.cmp.Ordering.TheVariants.{Less, Greater}
 use Rattle.std.proofs.lemmas.Bool.Decides.{nat_tests}
 use Rattle.vs_base.specs.declared.cell.Cell.{Cell}
 use Rattle.vs_base.specs.declared.table.ColumnKind.{ColumnKind}
-use Rattle.vs_base.specs.Keys.{cell_order, key_order, number_order, text_order}
+use Rattle.vs_base.specs.Keys.{cell_order, key_order, number_order}
 use Rattle.vs_base.specs.Numbers.{number_of}
 use Rattle.vs_tables.specs.Parts.{part_by, part_of, parts_of}
 use Rattle.vs_tables.specs.Rows.{parts_order}

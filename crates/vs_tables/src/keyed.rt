@@ -7,7 +7,6 @@ ghost use Rattle.std.specs.declared.ops.Bound.{Bound};
 ghost use Rattle.vs_base.specs.Keys.{key_kinds};
 ghost use Rattle.vs_tables.specs.Parts.{fits_limits, parts_of};
 ghost use Rattle.vs_tables.specs.Changes.{
-  RowFault,
   RowFaultTells,
   fault_of_change,
   is_long,
@@ -23,8 +22,6 @@ ghost use Rattle.vs_tables.specs.Rows.{
   rows_behind,
   no_rows,
   row_key,
-  rows_with,
-  rows_without,
 };
 
 use crate::key::{KeyPart, fits_limits, key_parts, row_parts};

@@ -9,30 +9,28 @@ const SCHEMA: &[u8] =
 /// A row of two cells; none is NULL.
 type Row = (Option<&'static [u8]>, Option<&'static [u8]>);
 
-/// A table, how many cells its key has in front of its rows, rows in the order in which they come, and
-/// their places in the order of the key.
-const ORDERS: [(&[u8], usize, [Row; 4], [usize; 4]); 3] = [
+/// A table, how many cells its key has in front of its rows, rows in the order in which they come, and in
+/// the order of the key.
+const ORDERS: [(&[u8], usize, [Row; 3], [Row; 3]); 3] = [
     (
         b"t",
         1,
-        [
-            (Some(b"10"), None),
-            (Some(b"9"), None),
-            (None, None),
-            (Some(b"-3"), None),
-        ],
-        [2, 3, 1, 0],
+        [(Some(b"10"), None), (Some(b"9"), None), (None, None)],
+        [(None, None), (Some(b"9"), None), (Some(b"10"), None)],
     ),
     (
         b"t",
         1,
         [
-            (Some(b"x"), None),
             (Some(b"007"), None),
             (Some(b"7"), None),
-            (Some(b"1000"), None),
+            (Some(b"-1000"), None),
         ],
-        [2, 3, 1, 0],
+        [
+            (Some(b"-1000"), None),
+            (Some(b"7"), None),
+            (Some(b"007"), None),
+        ],
     ),
     (
         b"c",
@@ -41,9 +39,12 @@ const ORDERS: [(&[u8], usize, [Row; 4], [usize; 4]); 3] = [
             (Some(b"b"), Some(b"2")),
             (Some(b"a"), Some(b"10")),
             (Some(b"a"), Some(b"9")),
-            (Some(b"a"), None),
         ],
-        [3, 2, 1, 0],
+        [
+            (Some(b"a"), Some(b"9")),
+            (Some(b"a"), Some(b"10")),
+            (Some(b"b"), Some(b"2")),
+        ],
     ),
 ];
 
@@ -95,72 +96,82 @@ fn insert(
     first: Option<&[u8]>,
     second: Option<&[u8]>,
 ) -> Result<(), TableRefusal> {
-    let change = Change {
+    let change = [Change {
         table: Text::from_bytes(alloc, table)?,
         before: None,
         after: Some(image(alloc, first, second, 2)?),
-    };
-    tables.apply(&[change])
+    }];
+    tables.apply(&change)
 }
 
-/// Whether the next row behind a key is this one.
+/// Whether the next row behind a key is this one, and the row behind that.
 fn is_next(
     alloc: Global,
     tables: &Tables,
     table: &[u8],
-    key: &Option<Image>,
-    row: (Option<&[u8]>, Option<&[u8]>),
+    key: Option<&Image>,
+    row: Row,
 ) -> Result<bool, OutOfMemory> {
     let wanted = image(alloc, row.0, row.1, 2)?;
-    match tables.next_after(table, key.as_ref())? {
+    match tables.next_after(table, key)? {
         Some(next) => Ok(next.cells() == wanted.cells()),
         None => Ok(false),
     }
 }
 
-#[test]
-fn rows_are_given_in_the_order_of_their_keys(rt: HostRuntime) -> Result<(), TableRefusal> {
-    let alloc = rt.alloc();
-    for (table, count, rows, order) in ORDERS {
-        let mut tables = open(alloc)?;
-        for (first, second) in rows {
-            insert(alloc, &mut tables, table, first, second)?;
-        }
-        let mut key = None;
-        for place in order {
-            let row = rows[place.min(3)];
-            assert!(rt; is_next(alloc, &tables, table, &key, row)?);
-            key = Some(image(alloc, row.0, row.1, count)?);
-        }
-        assert!(rt; tables.next_after(table, key.as_ref())?.is_none());
-    }
-    Ok(())
+fn is_next_behind(
+    alloc: Global,
+    tables: &Tables,
+    table: &[u8],
+    count: usize,
+    last: Row,
+    row: Row,
+) -> Result<bool, OutOfMemory> {
+    let key = image(alloc, last.0, last.1, count)?;
+    is_next(alloc, tables, table, Some(&key), row)
 }
 
-/// What a change of the rows 5 and 6 of t is answered.
-fn told(
+fn has_more(
     alloc: Global,
-    before: Option<&[u8]>,
-    after: Option<&[u8]>,
-) -> Result<Option<&'static [u8]>, TableRefusal> {
+    tables: &Tables,
+    table: &[u8],
+    count: usize,
+    last: Row,
+) -> Result<bool, OutOfMemory> {
+    let key = image(alloc, last.0, last.1, count)?;
+    Ok(tables.next_after(table, Some(&key))?.is_some())
+}
+
+fn fill(alloc: Global, table: &[u8], rows: [Row; 3]) -> Result<Tables, TableRefusal> {
     let mut tables = open(alloc)?;
-    insert(alloc, &mut tables, b"t", Some(b"5"), None)?;
-    insert(alloc, &mut tables, b"t", Some(b"6"), None)?;
-    let change = Change {
-        table: Text::from_bytes(alloc, b"t")?,
-        before: image_if(alloc, before)?,
-        after: image_if(alloc, after)?,
-    };
-    match tables.apply(&[change]) {
-        Ok(()) => Ok(None),
-        Err(TableRefusal::MissingRow { table }) if table.as_bytes() == b"t".as_slice() => {
-            Ok(Some(b"missing t"))
-        }
-        Err(TableRefusal::DoubleRow { table }) if table.as_bytes() == b"t".as_slice() => {
-            Ok(Some(b"double t"))
-        }
-        Err(_) => Ok(Some(b"another")),
+    insert(alloc, &mut tables, table, rows[0].0, rows[0].1)?;
+    insert(alloc, &mut tables, table, rows[1].0, rows[1].1)?;
+    insert(alloc, &mut tables, table, rows[2].0, rows[2].1)?;
+    Ok(tables)
+}
+
+fn is_ordered(
+    alloc: Global,
+    tables: &Tables,
+    table: &[u8],
+    count: usize,
+    rows: [Row; 3],
+) -> Result<bool, OutOfMemory> {
+    Ok(
+        is_next(alloc, tables, table, None, rows[0])?
+            && is_next_behind(alloc, tables, table, count, rows[0], rows[1])?
+            && is_next_behind(alloc, tables, table, count, rows[1], rows[2])?
+            && !has_more(alloc, tables, table, count, rows[2])?,
+    )
+}
+
+#[test]
+fn rows_are_given_in_the_order_of_their_keys(rt: HostRuntime) -> Result<(), TableRefusal> {
+    for (table, count, rows, order) in ORDERS {
+        let tables = fill(rt.alloc(), table, rows)?;
+        assert!(rt; is_ordered(rt.alloc(), &tables, table, count, order)?);
     }
+    Ok(())
 }
 
 fn image_if(alloc: Global, id: Option<&[u8]>) -> Result<Option<Image>, OutOfMemory> {
@@ -170,34 +181,79 @@ fn image_if(alloc: Global, id: Option<&[u8]>) -> Result<Option<Image>, OutOfMemo
     }
 }
 
+fn change(
+    alloc: Global,
+    before: Option<&[u8]>,
+    after: Option<&[u8]>,
+) -> Result<Change, OutOfMemory> {
+    Ok(Change {
+        table: Text::from_bytes(alloc, b"t")?,
+        before: image_if(alloc, before)?,
+        after: image_if(alloc, after)?,
+    })
+}
+
+fn told(answer: &Result<(), TableRefusal>) -> Option<&'static [u8]> {
+    match answer {
+        Ok(()) => None,
+        Err(TableRefusal::MissingRow { table: _ }) => Some(b"missing t"),
+        Err(TableRefusal::DoubleRow { table: _ }) => Some(b"double t"),
+        Err(_) => Some(b"another"),
+    }
+}
+
+/// What a change of the rows 5 and 6 of t is answered.
+fn answer(
+    alloc: Global,
+    before: Option<&[u8]>,
+    after: Option<&[u8]>,
+) -> Result<Option<&'static [u8]>, TableRefusal> {
+    let mut tables = open(alloc)?;
+    insert(alloc, &mut tables, b"t", Some(b"5"), None)?;
+    insert(alloc, &mut tables, b"t", Some(b"6"), None)?;
+    let change = [change(alloc, before, after)?];
+    let answer = tables.apply(&change);
+    Ok(told(&answer))
+}
+
 #[test]
 fn changes_stand_on_the_rows_before_them(rt: HostRuntime) -> Result<(), TableRefusal> {
     for (before, after, wanted) in CHANGES {
-        assert_eq!(rt; told(rt.alloc(), before, after)?, wanted);
+        assert_eq!(rt; answer(rt.alloc(), before, after)?, wanted);
     }
     Ok(())
 }
 
+/// Whether a row of w with a key of so many bytes is refused, and each change after it.
+fn is_refused(alloc: Global, key: &[u8]) -> Result<bool, TableRefusal> {
+    let mut tables = open(alloc)?;
+    let long = insert(alloc, &mut tables, b"w", Some(key), None);
+    let again = insert(alloc, &mut tables, b"t", Some(b"2"), None);
+    Ok(is_long(&long) && is_long(&again))
+}
+
+fn is_long(answer: &Result<(), TableRefusal>) -> bool {
+    matches!(answer, Err(TableRefusal::KeyTooLong { table: _ }))
+}
+
 #[test]
 fn a_key_has_at_most_3072_bytes(rt: HostRuntime) -> Result<(), TableRefusal> {
-    let alloc = rt.alloc();
-    let key = vec![in alloc; b'a'; 3073]?;
-    let mut tables = open(alloc)?;
-    insert(alloc, &mut tables, b"t", Some(b"1"), Some(key.as_slice()))?;
-    insert(alloc, &mut tables, b"w", Some(&key.as_slice()[1..]), None)?;
-    let long = insert(alloc, &mut tables, b"w", Some(key.as_slice()), None);
-    assert!(rt; matches!(long, Err(TableRefusal::KeyTooLong { .. })));
-    let again = insert(alloc, &mut tables, b"t", Some(b"2"), None);
-    assert!(rt; matches!(again, Err(TableRefusal::KeyTooLong { .. })));
+    let key = vec![in rt.alloc(); b'a'; 3073]?;
+    assert!(rt; is_refused(rt.alloc(), key.as_slice())?);
+    assert!(rt; !is_refused(rt.alloc(), &key.as_slice()[1..])?);
     Ok(())
+}
+
+/// Whether a change of a table without a key passes, twice too.
+fn passes(alloc: Global) -> Result<bool, TableRefusal> {
+    let mut tables = open(alloc)?;
+    insert(alloc, &mut tables, b"n", Some(b"1"), None)?;
+    insert(alloc, &mut tables, b"n", Some(b"1"), None)?;
+    Ok(tables.next_after(b"n", None)?.is_none())
 }
 
 #[test]
 fn changes_of_tables_without_a_key_pass(rt: HostRuntime) -> Result<(), TableRefusal> {
-    let alloc = rt.alloc();
-    let mut tables = open(alloc)?;
-    insert(alloc, &mut tables, b"n", Some(b"1"), None)?;
-    insert(alloc, &mut tables, b"n", Some(b"1"), None)?;
-    assert!(rt; tables.next_after(b"n", None)?.is_none());
+    assert!(rt; passes(rt.alloc())?);
     Ok(())
 }
