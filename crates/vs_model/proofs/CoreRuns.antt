@@ -45,7 +45,7 @@ one_copies v s place copies =
     any_by (λ n. same_name n s) (copies_in v) (names v) (λ n e. ap (copies_in v) (same_name-is n s e) ∙ at_s)
     (sym (stands-names v s) ∙ ap is_some copies.0)
 
-none_copies : (v : Vector) → some_copies v ≡ false → NoneCopies v
+pub none_copies : (v : Vector) → some_copies v ≡ false → NoneCopies v
 none_copies v none s place copies = true≢false (sym (one_copies v s place copies) ∙ none)
 
 -- one frame more
@@ -53,7 +53,7 @@ one_frame : (f g : Frame) (rest behind : List Frame) → f ∷ [] ≡ rest ++ g 
 one_frame f g [] behind is = (same_head _ _ _ _ is, refl)
 one_frame f g (x ∷ rest) behind is = absurd (not_nil rest behind g (sym (same_tail _ _ _ _ is)))
 
-follows_one : (fs : List Frame) (f : Frame) → AllCopiedFollows fs → (f ≡ AllCopied → IsCopyDoneFrame (last_or None (filter is_no_beat fs))) →
+pub follows_one : (fs : List Frame) (f : Frame) → AllCopiedFollows fs → (f ≡ AllCopied → IsCopyDoneFrame (last_or None (filter is_no_beat fs))) →
     AllCopiedFollows (fs ++ f ∷ [])
 follows_one fs f follows one before behind is = ⊎_elim
     (λ h. follows before h.0 h.1)
@@ -62,17 +62,17 @@ follows_one fs f follows one before behind is = ⊎_elim
     subst (λ l. IsCopyDoneFrame (last_or None (filter is_no_beat l))) same (one only.0))
     (stands_in fs (f ∷ []) before AllCopied behind is)
 
-last_frame : (fs : List Frame) (f : Frame) → last_or None (filter is_no_beat (fs ++ f ∷ [])) ≡ last_or (last_or None (filter is_no_beat fs)) (filter is_no_beat (f ∷ []))
+pub last_frame : (fs : List Frame) (f : Frame) → last_or None (filter is_no_beat (fs ++ f ∷ [])) ≡ last_or (last_or None (filter is_no_beat fs)) (filter is_no_beat (f ∷ []))
 last_frame fs f = ap (last_or None) (filter-append is_no_beat fs (f ∷ [])) ∙ last_or-append None (filter is_no_beat fs) (filter is_no_beat (f ∷ []))
 
 -- which frame a piece is
-not_all_copied : (s : ShardName) (piece : Piece) (w : Vector) → frame_of s piece w ≡ AllCopied → ⊥
+pub not_all_copied : (s : ShardName) (piece : Piece) (w : Vector) → frame_of s piece w ≡ AllCopied → ⊥
 not_all_copied s (Transaction told) w e = cc
 not_all_copied s (CopiedRows table rows time q l) w e = cc
 not_all_copied s (CopyEnd time q) w e = cc
 
 -- the end of all copies is due only behind the end of a copy
-due_of_piece : (s : ShardName) (piece : Piece) (w : Vector) (before : Option Frame) → ends_copies piece w ≡ true →
+pub due_of_piece : (s : ShardName) (piece : Piece) (w : Vector) (before : Option Frame) → ends_copies piece w ≡ true →
     IsCopyDoneFrame (last_or before (filter is_no_beat (frame_of s piece w ∷ []))) × (some_copies w ≡ false)
 due_of_piece s (Transaction told) w before e = absurd (true≢false (sym e))
 due_of_piece s (CopiedRows table rows time q l) w before e = absurd (true≢false (sym e))

@@ -1,22 +1,22 @@
-mod Lists
-mod Each
+pub mod Lists
+pub mod Each
 mod Entries
-mod Places
+pub mod Places
 mod Sent
-mod OneStep
-mod Runs
+pub mod OneStep
+pub mod Runs
 mod Examples
-mod Resumed
+pub mod Resumed
 mod Comes
 mod Stays
 mod Final
 mod CopyExamples
 mod Lanes
 mod LaneExamples
-mod Given
-mod Gate
+pub mod Given
+pub mod Gate
 mod GateLanes
-mod CoreRuns
+pub mod CoreRuns
 mod CoreEnds
 mod CoreExamples
 mod Keys

@@ -1,0 +1,4 @@
+pub mod Slots
+pub mod HeldPieces
+pub mod Ends
+pub mod Law

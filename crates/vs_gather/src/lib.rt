@@ -1,0 +1,8 @@
+//! Scratch.
+#![tactic(auto)]
+
+mod gather;
+mod refusal;
+
+pub use gather::Kept;
+pub use refusal::GatherRefusal;

@@ -1,0 +1,6 @@
+//! Scratch.
+#![tactic(auto)]
+
+mod refusal;
+
+pub use refusal::VectorRefusal;
