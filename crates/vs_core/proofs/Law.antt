@@ -39,13 +39,16 @@ use Rattle.vs_model.proofs.OneStep.{step_all_copied, step_beat, step_halt, step_
 use Rattle.vs_model.proofs.Given.{given_on, base_on, at_journal}
 use Rattle.vs_model.proofs.Gate.{after_piece, piece_step}
 use Rattle.vs_model.proofs.CoreRuns.{not_nil, left_nil, none_copies, follows_one, last_frame, due_of_piece, not_all_copied}
-use Rattle.vs_render.specs.Bodies.{Rendered, Held}
+use Rattle.vs_request.specs.declared.request.Flags.{Flags}
+use Rattle.vs_render.specs.Bodies.{Rendered, HeldBody}
 use Rattle.vs_render.specs.declared.piece.Piece.{Piece}
 use Rattle.vs_render.specs.declared.piece.Piece.TheVariants as piece
 use Rattle.vs_render.specs.declared.piece.EndCause.TheVariants as cause
-use Rattle.vs_vector.specs.Changes.{place_with, position_in, grown_from, grown, set_to}
+use Rattle.vs_base.specs.Limits.{most_intervals}
+use Rattle.vs_vector.specs.Places.{place_position}
+use Rattle.vs_vector.specs.Changes.{place_with, limited_place, moved_to, advanced_from, advanced, set_to}
 use Rattle.vs_vector.specs.declared.refusal.VectorRefusal.TheVariants.{Absent, TooManyIntervals}
-use Rattle.vs_gather.specs.Gathering.{Arrived, concerns, arrival, arrival_unless, arrives, arrived_of, kept_of, refusal, first_of, differs, clash, clash_of, put, without, with_id, adds_nothing, waiting_ids}
+use Rattle.vs_gather.specs.Gathering.{Arrived, concerns, arrival, arrival_unless, arrives, arrived_of, kept_of, arrival_refusal, first_of, differs, clash, clash_of, kept_with, kept_without, has_id, adds_nothing, have_all_arrived}
 use Rattle.vs_gather.specs.Gathering.Arrived.{StillWaits, Completes}
 use Rattle.vs_gather.specs.declared.gather.Kept.{Kept}
 use Rattle.vs_gather.specs.declared.refusal.GatherRefusal.{GatherRefusal}
@@ -131,6 +134,15 @@ each_name t (n ∷ ns) m all is = by (same_name m n) refl (each_name t ns m (and
     by true same on = ap t (same_name-is m n same) ∙ (and_parts (t n) (list_all t ns) all).0
     by false other on = on (sym (ap (λ b. b || is_in m ns) other) ∙ is)
 
+-- a name among these and one more
+in_append : (m n : ShardName) (ns : List ShardName) → is_in m (ns ++ n ∷ []) ≡ true → (is_in m ns ≡ true) ⊎ (same_name m n ≡ true)
+in_append m n [] i = inr (sym (or-false (same_name m n)) ∙ i)
+in_append m n (x ∷ ns) i = by (same_name m x) refl (in_append m n ns)
+  where
+    by : (b : Bool) → same_name m x ≡ b → (is_in m (ns ++ n ∷ []) ≡ true → (is_in m ns ≡ true) ⊎ (same_name m n ≡ true)) → (is_in m (x ∷ ns) ≡ true) ⊎ (same_name m n ≡ true)
+    by true p on = inl (ap (λ b. b || is_in m ns) p)
+    by false p on = ⊎_elim (λ h. inl (ap (λ b. b || is_in m ns) p ∙ h)) (λ h. inr h) (on (sym (ap (λ b. b || is_in m (ns ++ n ∷ [])) p) ∙ i))
+
 none_first : (a b : Option GatherRefusal) → first_of a b ≡ None → (a ≡ None) × (b ≡ None)
 none_first None b e = (refl, e)
 none_first (Some x) b e = absurd (some_is_not_none x e)
@@ -144,11 +156,11 @@ no_clash : (j : JournalValue) (o : Option Successor) → clash_of j o ≡ None �
 no_clash j None e = refl
 no_clash j (Some n) e = absurd (some_is_not_none (Clash j.id n.name) e)
 
-all_put : (P : Kept → Type 0) (c : Kept) (kept : List Kept) → P c → AllByRecursion P kept → AllByRecursion P (put c kept)
+all_put : (P : Kept → Type 0) (c : Kept) (kept : List Kept) → P c → AllByRecursion P kept → AllByRecursion P (kept_with c kept)
 all_put P c [] one all = (one, tt)
-all_put P c (x ∷ xs) one all = by (with_id c.journal.id x) refl (all_put P c xs one all.1)
+all_put P c (x ∷ xs) one all = by (has_id c.journal.id x) refl (all_put P c xs one all.1)
   where
-    by : (b : Bool) → with_id c.journal.id x ≡ b → AllByRecursion P (put c xs) → AllByRecursion P (put c (x ∷ xs))
+    by : (b : Bool) → has_id c.journal.id x ≡ b → AllByRecursion P (kept_with c xs) → AllByRecursion P (kept_with c (x ∷ xs))
     by true p on = rw p (one, all.1)
     by false p on = rw p (all.0, on)
 
@@ -368,16 +380,16 @@ module _ (spells : BodySpelling) (cluster : Cluster) (rules : Filter) (distinct 
         tx_sent : (g : Gtid) (time : ℕ) (body : Rendered) (place : Place) (e : Entry) (told : List Given) (last : Option JournalValue) →
             place_of s.vector n ≡ Some place → AreGiven (rules n) n (log_of cluster n) (Transaction e ∷ told) last place → HasBase (log_of cluster n) place →
             e.gtid ≡ g → e.time ≡ time → spells.entry n e ≡ body → IfSome (journal_of e.work) (NoParticipantStands n s.vector) →
-            Shows spells n (held_of k rest ++ future k) told last → Goal (moved_by (record s { held = rest }) k n time body (grown s.vector n g))
+            Shows spells n (held_of k rest ++ future k) told last → Goal (moved_by (record s { held = rest }) k n time body (advanced s.vector n g))
         tx_sent g time body place e told last there given base gtid at spelled foreign shows is =
-            by (nat_lt 1024 (length (position_in (place_with place g)))) refl
-            (subst (λ o. moved_by (record s { held = rest }) k n time body (grown_from s.vector n o g) ≡ Went new more told_it) there is)
+            by (nat_lt most_intervals (length (place_position (place_with place g)))) refl
+            (subst (λ o. moved_by (record s { held = rest }) k n time body (moved_to s.vector n (advanced_from n o g)) ≡ Went new more told_it) there is)
           where
             Tested : Bool → Type 0
-            Tested b = moved_by (record s { held = rest }) k n time body (if b then Err TooManyIntervals else Ok (moved s.vector n (place_with place g))) ≡ Went new more told_it
+            Tested b = moved_by (record s { held = rest }) k n time body (moved_to s.vector n (if b then Err TooManyIntervals else Ok (place_with place g))) ≡ Went new more told_it
 
-            by : (b : Bool) → nat_lt 1024 (length (position_in (place_with place g))) ≡ b →
-                moved_by (record s { held = rest }) k n time body (grown_from s.vector n (Some place) g) ≡ Went new more told_it → Then new more
+            by : (b : Bool) → nat_lt most_intervals (length (place_position (place_with place g))) ≡ b →
+                moved_by (record s { held = rest }) k n time body (moved_to s.vector n (advanced_from n (Some place) g)) ≡ Went new more told_it → Then new more
             by true p h = absurd (not_refused _ _ _ _ (subst Tested p h))
             by false p h = body_sent (moved s.vector n (place_with place g)) time body (place_with place g) place (Transaction e) told last refl refl there given base
                 (tx_moves place e g told last gtid given) foreign (refl, refl, at, spelled) shows (subst Tested p h)
@@ -446,14 +458,14 @@ module _ (spells : BodySpelling) (cluster : Cluster) (rules : Filter) (distinct 
           abbrev Comes : ShardName → Type 0
           Comes m = HasCome s.vector m j × IsNotLive over m
 
-          module _ (fits_refusal : refusal s.vector j s.kept ≡ None) where
+          module _ (fits_refusal : arrival_refusal s.vector j s.kept ≡ None) where
             no_difference : differs (kept_of j.id s.kept) j ≡ None
             no_difference = (none_first _ _ fits_refusal).0
 
             arrived_come : (o : Option Kept) → kept_of j.id s.kept ≡ o → (m : ShardName) → is_in m (arrived_of o) ≡ true → Comes m
             arrived_come None is m i = absurd (true≢false (sym i))
             arrived_come (Some c) is m i =
-                let h = all_found _ (with_id j.id) s.kept c lanes_over.come is in
+                let h = all_found _ (has_id j.id) s.kept c lanes_over.come is in
                 let same : c.journal ≡ j = same_journal-is c.journal j (not_differs c j (sym (ap (λ o. differs o j) is) ∙ no_difference)) in
                 let at = h m i in
                 subst (λ x. HasCome s.vector m x × IsNotLive over m) same at
@@ -461,11 +473,11 @@ module _ (spells : BodySpelling) (cluster : Cluster) (rules : Filter) (distinct 
             abbrev Arrived_then : List ShardName
             Arrived_then = arrived_of (kept_of j.id s.kept)
 
-            come_then : (m : ShardName) → is_in m (n ∷ Arrived_then) ≡ true → Comes m
+            come_then : (m : ShardName) → is_in m (Arrived_then ++ n ∷ []) ≡ true → Comes m
             come_then m i = ⊎_elim
+                (λ other. arrived_come (kept_of j.id s.kept) refl m other)
                 (λ same. subst Comes (sym (same_name-is m n same)) (here, here_over))
-                (λ other. arrived_come (kept_of j.id s.kept) refl m (sym (ap (λ b. b || is_in m Arrived_then) other) ∙ i))
-                (cases_Bool (same_name m n))
+                (in_append m n Arrived_then i)
 
             with_kept : (kept : List Kept) → AllByRecursion (λ c. (m : ShardName) → IsTrue (is_in m c.arrived) → HasCome s.vector m c.journal × IsNotLive over m) kept →
                 Lanes (record over { kept = kept }) future
@@ -482,9 +494,9 @@ module _ (spells : BodySpelling) (cluster : Cluster) (rules : Filter) (distinct 
             waits_on kept all is = then_by _ _ _ _ _ _ is (with_kept kept all, frames_same, refl)
 
             -- all participants have come
-            module _ (all_come : list_all (λ m. is_in m (n ∷ Arrived_then)) j.participants ≡ true) where
+            module _ (all_come : list_all (λ m. is_in m (Arrived_then ++ n ∷ [])) j.participants ≡ true) where
               participant_comes : (m : ShardName) → is_in m j.participants ≡ true → Comes m
-              participant_comes m i = come_then m (each_name (λ x. is_in x (n ∷ Arrived_then)) j.participants m all_come i)
+              participant_comes m i = come_then m (each_name (λ x. is_in x (Arrived_then ++ n ∷ [])) j.participants m all_come i)
 
               gathered : HasGathered cluster s.vector j
               gathered = record {
@@ -504,20 +516,20 @@ module _ (spells : BodySpelling) (cluster : Cluster) (rules : Filter) (distinct 
               stays_in : (m : ShardName) → (Comes m → ⊥) → is_in m j.participants ≡ false
               stays_in m not_come = ⊎_elim (λ i. absurd (not_come (participant_comes m i))) (λ i. i) (cases_Bool (is_in m j.participants))
 
-              other_stays : (c : Kept) → with_id j.id c ≡ false → (m : ShardName) → HasCome s.vector m c.journal → is_in m j.participants ≡ false
+              other_stays : (c : Kept) → has_id j.id c ≡ false → (m : ShardName) → HasCome s.vector m c.journal → is_in m j.participants ≡ false
               other_stays c other m at = stays_in m (λ come.
                   let p_is : at.0 ≡ come.0.0 = same_position s.vector m at.0 come.0.0 at.1 come.0.1 in
                   let j_is : c.journal ≡ j = same_some _ _ (sym at.3 ∙ ap (λ p. stop m (log_of cluster m) p) p_is ∙ come.0.3) in
                   true≢false (sym ((Decides-int_eq j.id j.id).1 refl) ∙ ap (λ x. int_eq x.id j.id) (sym j_is) ∙ other))
 
               left_come : (kept : List Kept) → AllByRecursion (λ c. (m : ShardName) → IsTrue (is_in m c.arrived) → HasCome s.vector m c.journal × IsNotLive over m) kept →
-                  AllByRecursion (λ c. (m : ShardName) → IsTrue (is_in m c.arrived) → HasCome (switched s.vector j) m c.journal × IsNotLive over m) (without j.id kept)
+                  AllByRecursion (λ c. (m : ShardName) → IsTrue (is_in m c.arrived) → HasCome (switched s.vector j) m c.journal × IsNotLive over m) (kept_without j.id kept)
               left_come [] all = tt
-              left_come (c ∷ kept) all = by (with_id j.id c) refl (left_come kept all.1)
+              left_come (c ∷ kept) all = by (has_id j.id c) refl (left_come kept all.1)
                 where
-                  by : (b : Bool) → with_id j.id c ≡ b →
-                      AllByRecursion (λ c. (m : ShardName) → IsTrue (is_in m c.arrived) → HasCome (switched s.vector j) m c.journal × IsNotLive over m) (without j.id kept) →
-                      AllByRecursion (λ c. (m : ShardName) → IsTrue (is_in m c.arrived) → HasCome (switched s.vector j) m c.journal × IsNotLive over m) (without j.id (c ∷ kept))
+                  by : (b : Bool) → has_id j.id c ≡ b →
+                      AllByRecursion (λ c. (m : ShardName) → IsTrue (is_in m c.arrived) → HasCome (switched s.vector j) m c.journal × IsNotLive over m) (kept_without j.id kept) →
+                      AllByRecursion (λ c. (m : ShardName) → IsTrue (is_in m c.arrived) → HasCome (switched s.vector j) m c.journal × IsNotLive over m) (kept_without j.id (c ∷ kept))
                   by true p on = rw p on
                   by false p on = rw p (λ m i.
                       let at = all.0 m i in
@@ -529,7 +541,7 @@ module _ (spells : BodySpelling) (cluster : Cluster) (rules : Filter) (distinct 
                   let stays = stays_in copies.0 (λ come. streams_or_copies s.vector copies.0 come.0.0 copies.1 come.0.1 copies.2) in
                   (copies.0, copies.1, (place_of-switched s.vector j copies.0 stays (ap is_some copies.2.0) ∙ copies.2.0, copies.2.1))
 
-              switches : Goal (Went (record over { vector = switched s.vector j; kept = without j.id s.kept }) (SentSwitch j (switched s.vector j) ∷ []) (Switched k j.participants (map (λ x. x.name) j.successors)))
+              switches : Goal (Went (record over { vector = switched s.vector j; kept = kept_without j.id s.kept }) (SentSwitch j (switched s.vector j) ∷ []) (Switched k j.participants (map (λ x. x.name) j.successors)))
               switches is =
                   let w = switched s.vector j in
                   let at_w : IsCanonicalVector w = subst IsCanonicalVector (sym (ap (λ x. x.vector) (same_new _ _ _ _ _ _ is))) canonical in
@@ -547,26 +559,26 @@ module _ (spells : BodySpelling) (cluster : Cluster) (rules : Filter) (distinct 
                   (λ e. absurd (let h : SwitchFrame j w ≡ AllCopiedFrame = e in cc)) (λ e before was. absurd (true≢false (sym e ∙ not_due)))
                   (λ fs was. ends_still fs (SwitchFrame j w) s.vector w s.all_copied tt copies_stay was), refl)
 
-              all_without : (P : Kept → Type 0) (kept : List Kept) → AllByRecursion P kept → AllByRecursion P (without j.id kept)
-              all_without P kept all = all_filtered P (λ c. not (with_id j.id c)) kept all
+              all_without : (P : Kept → Type 0) (kept : List Kept) → AllByRecursion P kept → AllByRecursion P (kept_without j.id kept)
+              all_without P kept all = all_filtered P (λ c. not (has_id j.id c)) kept all
 
-              completes : Goal (arrived_by over k j (Ok (Completes (without j.id s.kept))))
-              completes is = by s.stop_on_reshard refl
+              completes : Goal (arrived_by over k j (Ok (Completes (kept_without j.id s.kept))))
+              completes is = by s.flags.stop_on_reshard refl
                 where
                   Tested : Bool → Type 0
-                  Tested b = (if b then Went (record over { kept = without j.id s.kept }) (SentHalt j s.vector ∷ []) (Halted k j.id)
-                      else switched_to (record over { kept = without j.id s.kept }) k j (switched s.vector j)) ≡ Went new more told_it
+                  Tested b = (if b then Went (record over { kept = kept_without j.id s.kept }) (SentHalt j s.vector ∷ []) (Halted k j.id)
+                      else switched_to (record over { kept = kept_without j.id s.kept }) k j (switched s.vector j)) ≡ Went new more told_it
 
                   Limited : Bool → Type 0
                   Limited b = (if b then Refused (TooManyShards (length (switched s.vector j)))
-                      else Went (record over { vector = switched s.vector j; kept = without j.id s.kept }) (SentSwitch j (switched s.vector j) ∷ []) (Switched k j.participants (map (λ x. x.name) j.successors))) ≡ Went new more told_it
+                      else Went (record over { vector = switched s.vector j; kept = kept_without j.id s.kept }) (SentSwitch j (switched s.vector j) ∷ []) (Switched k j.participants (map (λ x. x.name) j.successors))) ≡ Went new more told_it
 
                   limited : (b : Bool) → nat_lt 64 (length (switched s.vector j)) ≡ b → Limited b → Then new more
                   limited true p h = absurd (not_refused _ _ _ _ h)
                   limited false p h = switches h
 
-                  by : (b : Bool) → s.stop_on_reshard ≡ b → Then new more
-                  by true p = halts (without j.id s.kept) (with_kept (without j.id s.kept) (all_without _ s.kept lanes_over.come)) (subst Tested p is)
+                  by : (b : Bool) → s.flags.stop_on_reshard ≡ b → Then new more
+                  by true p = halts (kept_without j.id s.kept) (with_kept (kept_without j.id s.kept) (all_without _ s.kept lanes_over.come)) (subst Tested p is)
                   by false p = limited (nat_lt 64 (length (switched s.vector j))) refl (subst Limited refl (subst Tested p is))
 
             arrives_to : Goal (arrived_by over k j (Ok (arrives n j Arrived_then s.kept)))
@@ -574,29 +586,29 @@ module _ (spells : BodySpelling) (cluster : Cluster) (rules : Filter) (distinct 
               where
                 Adds : Bool → Type 0
                 Adds b = arrived_by over k j (Ok (if b then StillWaits s.kept
-                    else if list_all (λ m. is_in m (n ∷ Arrived_then)) j.participants then Completes (without j.id s.kept)
-                    else StillWaits (put (record { journal = j; arrived = n ∷ Arrived_then }) s.kept))) ≡ Went new more told_it
+                    else if list_all (λ m. is_in m (Arrived_then ++ n ∷ [])) j.participants then Completes (kept_without j.id s.kept)
+                    else StillWaits (kept_with (record { journal = j; arrived = Arrived_then ++ n ∷ [] }) s.kept))) ≡ Went new more told_it
 
                 All_in : Bool → Type 0
-                All_in b = arrived_by over k j (Ok (if b then Completes (without j.id s.kept)
-                    else StillWaits (put (record { journal = j; arrived = n ∷ Arrived_then }) s.kept))) ≡ Went new more told_it
+                All_in b = arrived_by over k j (Ok (if b then Completes (kept_without j.id s.kept)
+                    else StillWaits (kept_with (record { journal = j; arrived = Arrived_then ++ n ∷ [] }) s.kept))) ≡ Went new more told_it
 
-                all_in : (b : Bool) → list_all (λ m. is_in m (n ∷ Arrived_then)) j.participants ≡ b → All_in b → Then new more
+                all_in : (b : Bool) → list_all (λ m. is_in m (Arrived_then ++ n ∷ [])) j.participants ≡ b → All_in b → Then new more
                 all_in true p h = completes p h
-                all_in false p h = waits_on (put (record { journal = j; arrived = n ∷ Arrived_then }) s.kept)
-                    (all_put _ (record { journal = j; arrived = n ∷ Arrived_then }) s.kept (λ m i. come_then m i) lanes_over.come) h
+                all_in false p h = waits_on (kept_with (record { journal = j; arrived = Arrived_then ++ n ∷ [] }) s.kept)
+                    (all_put _ (record { journal = j; arrived = Arrived_then ++ n ∷ [] }) s.kept (λ m i. come_then m i) lanes_over.come) h
 
                 by : (b : Bool) → adds_nothing n j Arrived_then ≡ b → Then new more
                 by true p = waits_on s.kept lanes_over.come (subst Adds p is)
-                by false p = all_in (list_all (λ m. is_in m (n ∷ Arrived_then)) j.participants) refl (subst Adds p is)
+                by false p = all_in (list_all (λ m. is_in m (Arrived_then ++ n ∷ [])) j.participants) refl (subst Adds p is)
 
           own_journal_comes : Goal (ended_by (record s { held = rest }) k n (cause.OwnJournal j))
-          own_journal_comes is = by (refusal s.vector j s.kept) refl
+          own_journal_comes is = by (arrival_refusal s.vector j s.kept) refl
             where
               Unless : Option GatherRefusal → Type 0
               Unless o = arrived_by over k j (arrival_unless o (arrives n j (arrived_of (kept_of j.id s.kept)) s.kept)) ≡ Went new more told_it
 
-              by : (o : Option GatherRefusal) → refusal s.vector j s.kept ≡ o → Then new more
+              by : (o : Option GatherRefusal) → arrival_refusal s.vector j s.kept ≡ o → Then new more
               by None p = arrives_to p (subst Unless p is)
               by (Some e) p = absurd (not_refused _ _ _ _ (subst Unless p is))
 
@@ -611,12 +623,12 @@ module _ (spells : BodySpelling) (cluster : Cluster) (rules : Filter) (distinct 
             HasBase (log_of cluster n) place
         base_as place pieces posted x told is = posted.base (λ none. cons_is_not_nil x told (sym is ∙ none))
 
-        handle_foreign : (g : Gtid) (time : ℕ) (j : JournalValue) (body : Held) (place : Place) → place_of s.vector n ≡ Some place →
+        handle_foreign : (g : Gtid) (time : ℕ) (j : JournalValue) (body : HeldBody) (place : Place) → place_of s.vector n ≡ Some place →
             Posted place (piece.Foreign g time j body ∷ (held_of k rest ++ future k)) → Goal (handled_by (record s { held = rest }) k n (piece.Foreign g time j body))
         handle_foreign g time j body place there posted is = by (concerns s.vector j) refl
           where
             Tested : Bool → Type 0
-            Tested b = (if b then Refused (Stranger j.id n) else moved_by (record s { held = rest }) k n time body.body (grown s.vector n g)) ≡ Went new more told_it
+            Tested b = (if b then Refused (Stranger j.id n) else moved_by (record s { held = rest }) k n time body.body (advanced s.vector n g)) ≡ Went new more told_it
 
             by : (b : Bool) → concerns s.vector j ≡ b → Then new more
             by true p = absurd (not_refused _ _ _ _ (subst Tested p is))
@@ -719,7 +731,7 @@ module _ (spells : BodySpelling) (cluster : Cluster) (rules : Filter) (distinct 
       after_by : (a : CoreState) (x : List Sent) (t : TurnTold) → Went a x t ≡ Went new more told_it → After a x → After new more
       after_by a x t e h = subst (λ z. After z more) (same_new _ _ _ _ _ _ e) (subst (After a) (same_sent _ _ _ _ _ _ e) h)
 
-      rested : (a b : Bool) → (if a then Went s [] Done else if b then Went s [] (Stuck (waiting_ids s.kept)) else Went s [] Nothing) ≡ Went new more told_it → After new more
+      rested : (a b : Bool) → (if a then Went s [] Done else if b then Went s [] (Stuck s.kept) else Went s [] Nothing) ≡ Went new more told_it → After new more
       rested true b e = after_by s [] _ e (lanes, subst (λ l. Frames l s.vector s.all_copied) (sym (append-nil sent)) frames, refl)
       rested false true e = after_by s [] _ e (lanes, subst (λ l. Frames l s.vector s.all_copied) (sym (append-nil sent)) frames, refl)
       rested false false e = after_by s [] _ e (lanes, subst (λ l. Frames l s.vector s.all_copied) (sym (append-nil sent)) frames, refl)
@@ -788,8 +800,8 @@ module _ (spells : BodySpelling) (cluster : Cluster) (rules : Filter) (distinct 
         (λ other. rw other refl)
         (cases_Bool (nat_eq lane k))
 
-    module _ (skew : ℕ) (until_end stops : Bool) (canonical0 : IsCanonicalVector v0) where
-      pub run_kept : (more : ℕ → List Piece) (h : List CoreEvent) (sent : List Sent) (s : CoreState) (run : CoreRun v0 skew until_end stops h sent s) (future : ℕ → List Piece) →
+    module _ (flags : Flags) (until_end : Bool) (canonical0 : IsCanonicalVector v0) where
+      pub run_kept : (more : ℕ → List Piece) (h : List CoreEvent) (sent : List Sent) (s : CoreState) (run : CoreRun v0 flags until_end h sent s) (future : ℕ → List Piece) →
           ((k : ℕ) → more k ≡ taken_of k h ++ future k) → ArePostedFrom spells cluster rules more run → Kept_so_far h sent s future
       run_kept more h sent s starts future all posted = record {
         lanes = record {
@@ -847,7 +859,7 @@ module _ (spells : BodySpelling) (cluster : Cluster) (rules : Filter) (distinct 
             fresh = λ k past. ap (λ l. l ++ []) (before.fresh k past);
           }
 
-      pub run_is_legal : (h : List CoreEvent) (sent : List Sent) (s : CoreState) (run : CoreRun v0 skew until_end stops h sent s) →
+      pub run_is_legal : (h : List CoreEvent) (sent : List Sent) (s : CoreState) (run : CoreRun v0 flags until_end h sent s) →
           ArePostedFrom spells cluster rules (λ k. taken_of k h) run → IsLegalStream spells cluster rules v0 sent s
       run_is_legal h sent s run posted =
           let kept = run_kept (λ k. taken_of k h) h sent s run (λ k. []) (λ k. sym (append-nil (taken_of k h))) posted in

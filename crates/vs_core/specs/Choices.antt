@@ -1,5 +1,6 @@
 -- Which lane's piece leaves next.
-use Rattle.std.specs.Prelude.{◌≡◌, ℕ, zero, suc, ◌+◌, Bool, List, [], ◌∷◌, ◌++◌, Option, Some, None, if◌then◌else◌, nat_eq, nat_le, option_map}
+use Rattle.std.specs.List.{remove}
+use Rattle.std.specs.Prelude.{◌≡◌, slice_get, ℕ, zero, suc, ◌+◌, Bool, List, [], ◌∷◌, ◌++◌, Option, Some, None, if◌then◌else◌, nat_eq, nat_le, option_map}
 use Rattle.std.specs.Set.{remove_key}
 use Rattle.vs_pace.specs.declared.head.Head.{Head}
 use Rattle.vs_pace.specs.Heads.{rank}
@@ -57,3 +58,15 @@ first_head skew (h ∷ heads) = Some (sooner skew h (first_head skew heads))
 -- the lane whose head leaves next
 abbrev pub next_lane : ℕ → ℕ → List (ℕ × Piece) → Option ℕ
 next_lane skew lanes held = option_map (λ h. h.0) (first_head skew (heads_below lanes held))
+
+-- the lane's first piece stands at this place among those that are held
+pub record IsHeadAt (held : List (ℕ × Piece)) (lane place : ℕ) : Type 0 where
+  pub piece : Piece
+  pub stands_at : slice_get held place ≡ Some (lane, piece)
+  pub first : held_of lane held ≡ piece ∷ held_of lane (without_head lane held)
+  pub others : without_head lane held ≡ remove held place
+
+-- the lane whose head leaves next, and the place of that piece
+abbrev pub IsNextPlace : Option ℕ → List (ℕ × Piece) → Option (ℕ × ℕ) → Type 0
+IsNextPlace chosen held None = chosen ≡ None
+IsNextPlace chosen held (Some next) = (chosen ≡ Some next.0) × IsHeadAt held next.0 next.1

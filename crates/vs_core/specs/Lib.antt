@@ -1,3 +1,5 @@
 pub mod Choices
 pub mod Machine
 pub mod Runs
+pub mod Spelling
+pub mod Tells

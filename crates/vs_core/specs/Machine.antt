@@ -7,15 +7,16 @@ use Rattle.vs_gtid.specs.declared.JournalValue.{JournalValue}
 use Rattle.vs_gtid.specs.Vectors.{Vector, IsCanonicalVector, stands, names, switched, is_in}
 use Rattle.vs_gtid.specs.Vectors.Place.{Copying, Streaming}
 use Rattle.vs_model.specs.Core.{some_copies}
+use Rattle.vs_request.specs.declared.request.Flags.{Flags}
 use Rattle.vs_render.specs.Bodies.{Rendered}
 use Rattle.vs_render.specs.declared.piece.Piece.{Piece}
 use Rattle.vs_render.specs.declared.piece.Piece.TheVariants as piece
 use Rattle.vs_render.specs.declared.piece.EndCause.{EndCause}
 use Rattle.vs_render.specs.declared.piece.EndCause.TheVariants as cause
-use Rattle.vs_vector.specs.Changes.{grown, set_to}
+use Rattle.vs_vector.specs.Changes.{advanced, set_to}
 use Rattle.vs_vector.specs.declared.refusal.VectorRefusal.{VectorRefusal}
 use Rattle.vs_vector.specs.declared.refusal.VectorRefusal.TheVariants as vector
-use Rattle.vs_gather.specs.Gathering.{Arrived, arrival, concerns, waiting_ids}
+use Rattle.vs_gather.specs.Gathering.{Arrived, arrival, concerns, waits}
 use Rattle.vs_gather.specs.Gathering.Arrived.{StillWaits, Completes}
 use Rattle.vs_gather.specs.declared.gather.Kept.{Kept}
 use Rattle.vs_gather.specs.declared.refusal.GatherRefusal.{GatherRefusal}
@@ -26,8 +27,7 @@ use Rattle.vs_core.specs.declared.refusal.CoreRefusal.{CoreRefusal}
 use Rattle.vs_core.specs.declared.refusal.CoreRefusal.TheVariants as refused
 
 -- The vector; the name and the state of each lane, by its number; the pieces that were taken and not handled, each with its lane, in the
--- order of taking; the journals that wait; whether the end of all copies is due; and what was asked for: the skew, whether the stream ends
--- with the logs, and whether it halts at a journal.
+-- order of taking; the journals that wait; whether the end of all copies is due; and what was asked for.
 pub record CoreState : Type 0 where
   pub vector : Vector
   pub names : List ShardName
@@ -35,9 +35,8 @@ pub record CoreState : Type 0 where
   pub held : List (ℕ × Piece)
   pub kept : List Kept
   pub all_copied : Bool
-  pub max_skew : ℕ
+  pub flags : Flags
   pub until_end : Bool
-  pub stop_on_reshard : Bool
 
 -- what is done: a lane begins, a piece of one is taken, a turn is made; and between these a heartbeat may be written
 pub data CoreEvent : Type 0 where
@@ -67,24 +66,23 @@ pub data TurnTold : Type 0 where
   Restart : (lane : ℕ) (name : ShardName) → TurnTold
   Nothing : TurnTold
   Done : TurnTold
-  Stuck : (ids : List ℤ) → TurnTold
+  Stuck : (kept : List Kept) → TurnTold
 
 -- what a turn makes, sends and tells, or why it is refused
 pub data Turned : Type 0 where
   Went : (new : CoreState) (sent : List Sent) (told : TurnTold) → Turned
   Refused : CoreRefusal → Turned
 
-abbrev pub initial : Vector → ℕ → Bool → Bool → CoreState
-initial v skew until_end stop = record {
+abbrev pub initial : Vector → Flags → Bool → CoreState
+initial v flags until_end = record {
   vector = v;
   names = [];
   states = [];
   held = [];
   kept = [];
   all_copied = false;
-  max_skew = skew;
+  flags = flags;
   until_end = until_end;
-  stop_on_reshard = stop;
 }
 
 -- the states of the lanes of a name, in the order of their numbers
@@ -120,10 +118,6 @@ has_live s name = list_any is_live (states_of name s.names s.states)
 abbrev pub is_at_end : CoreState → ShardName → Bool
 is_at_end s name = last_at_end (states_of name s.names s.states)
 
--- the shard waits at a journal
-abbrev pub waits : List Kept → ShardName → Bool
-waits kept name = list_any (λ k. is_in name k.arrived) kept
-
 -- every shard is at its log's end
 abbrev pub is_done : CoreState → Bool
 is_done s = s.until_end && list_all (is_at_end s) (names s.vector)
@@ -140,7 +134,7 @@ in_state s k state = record s { states = slice_set s.states k state }
 
 -- no piece is held
 abbrev pub at_rest : CoreState → Turned
-at_rest s = if is_done s then Went s [] Done else if is_stuck s then Went s [] (Stuck (waiting_ids s.kept)) else Went s [] Nothing
+at_rest s = if is_done s then Went s [] Done else if is_stuck s then Went s [] (Stuck s.kept) else Went s [] Nothing
 
 abbrev pub moves_to : CoreState → ℕ → ShardName → ℕ → Rendered → Vector → Turned
 moves_to s k name time body w = Went (record s { vector = w }) (SentBody name time body w ∷ []) (Frame k)
@@ -164,7 +158,7 @@ switched_to s k j w =
 
 abbrev pub completed : CoreState → ℕ → JournalValue → Turned
 completed s k j =
-    if s.stop_on_reshard then Went s (SentHalt j s.vector ∷ []) (Halted k j.id)
+    if s.flags.stop_on_reshard then Went s (SentHalt j s.vector ∷ []) (Halted k j.id)
     else switched_to s k j (switched s.vector j)
 
 abbrev pub arrived_by : CoreState → ℕ → JournalValue → Result Arrived GatherRefusal → Turned
@@ -191,9 +185,9 @@ copied_by s k name time (Err e) = Refused (why_not_moved name e)
 
 -- A piece of a lane, which isn't held any more. A piece that can't come (its lane or its shard isn't there) is answered as want of memory.
 abbrev pub handled_by : CoreState → ℕ → ShardName → Piece → Turned
-handled_by s k name (piece.Tx g time body) = moved_by s k name time body.body (grown s.vector name g)
+handled_by s k name (piece.Tx g time body) = moved_by s k name time body.body (advanced s.vector name g)
 handled_by s k name (piece.Foreign g time j body) =
-    if concerns s.vector j then Refused (refused.Stranger j.id name) else moved_by s k name time body.body (grown s.vector name g)
+    if concerns s.vector j then Refused (refused.Stranger j.id name) else moved_by s k name time body.body (advanced s.vector name g)
 handled_by s k name (piece.Chunk q l time body) = moved_by s k name time body.body (set_to s.vector name (Copying q l))
 handled_by s k name (piece.CopyDone q time room) = copied_by s k name time (set_to s.vector name (Streaming q))
 handled_by s k name (piece.Idle room) = Went s [] (Idled k)
@@ -214,7 +208,7 @@ with_next s None = at_rest s
 with_next s (Some k) = with_pieces s k (held_of k s.held)
 
 abbrev pub chosen_lane : CoreState → Option ℕ
-chosen_lane s = next_lane s.max_skew (length s.names) s.held
+chosen_lane s = next_lane s.flags.max_skew (length s.names) s.held
 
 -- what a turn makes of the core
 abbrev pub turned : CoreState → Turned

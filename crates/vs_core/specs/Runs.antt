@@ -12,6 +12,7 @@ use Rattle.vs_model.specs.Frames.Frame.{Tx as TxFrame, Chunk as ChunkFrame, Copy
 use Rattle.vs_model.specs.Legal.{Legal, NoneCopies}
 use Rattle.vs_model.specs.Core.{Piece as Given, AreGiven, HasBase, HasAllCopied}
 use Rattle.vs_model.specs.Core.Piece.{Transaction, CopiedRows, CopyEnd}
+use Rattle.vs_request.specs.declared.request.Flags.{Flags}
 use Rattle.vs_render.specs.Bodies.{Rendered}
 use Rattle.vs_render.specs.declared.piece.Piece.{Piece}
 use Rattle.vs_render.specs.declared.piece.Piece.TheVariants as piece
@@ -27,10 +28,10 @@ pub record BodySpelling : Type 0 where
   pub rows : ShardName → List ℕ → List Image → ℕ → Rendered
 
 -- a run from a vector: its events, the newest first, and all that it sent
-pub data CoreRun (v0 : Vector) (skew : ℕ) (until_end stop : Bool) : List CoreEvent → List Sent → CoreState → Type 0 where
-  starts : CoreRun v0 skew until_end stop [] [] (initial v0 skew until_end stop)
+pub data CoreRun (v0 : Vector) (flags : Flags) (until_end : Bool) : List CoreEvent → List Sent → CoreState → Type 0 where
+  starts : CoreRun v0 flags until_end [] [] (initial v0 flags until_end)
   goes_on : {events : List CoreEvent} {sent more : List Sent} {s new : CoreState} {e : CoreEvent} →
-      CoreRun v0 skew until_end stop events sent s → Goes s e more new → CoreRun v0 skew until_end stop (e ∷ events) (sent ++ more) new
+      CoreRun v0 flags until_end events sent s → Goes s e more new → CoreRun v0 flags until_end (e ∷ events) (sent ++ more) new
 
 abbrev pub takes_of : ℕ → CoreEvent → List Piece
 takes_of k (Begin name) = []
@@ -74,8 +75,8 @@ pub record ArePosted (spells : BodySpelling) (cluster : Cluster) (rules : Filter
   pub shows : Shows spells s pieces told last
 
 -- each lane of the run posted what its log lets it, from the vector's entry at its beginning
-abbrev pub ArePostedFrom : BodySpelling → Cluster → Filter → (more : ℕ → List Piece) → {v0 : Vector} {skew : ℕ} {until_end stop : Bool} {events : List CoreEvent} {sent : List Sent} {s : CoreState} →
-    CoreRun v0 skew until_end stop events sent s → Type 0
+abbrev pub ArePostedFrom : BodySpelling → Cluster → Filter → (more : ℕ → List Piece) → {v0 : Vector} {flags : Flags} {until_end : Bool} {events : List CoreEvent} {sent : List Sent} {s : CoreState} →
+    CoreRun v0 flags until_end events sent s → Type 0
 ArePostedFrom spells cluster rules more starts = Unit {0}
 ArePostedFrom spells cluster rules more (goes_on {s = s} {e = Begin name} run step) =
     ((place : Place) → place_of s.vector name ≡ Some place → ArePosted spells cluster rules name place (more (length s.names))) × ArePostedFrom spells cluster rules more run
