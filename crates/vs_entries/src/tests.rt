@@ -1,3 +1,6 @@
+ghost use Rattle.std.specs.Prelude.{◌≤◌};
+ghost use Rattle.vs_log.specs.Events.{last_place};
+
 use crate::events_for_tests::*;
 use crate::front::front_event;
 use crate::kind::StatementKind;
@@ -398,7 +401,9 @@ fn statements(rt: HostRuntime) {
 /// The place where an event of 19 bytes begins that ends at byte 2^62.
 const LAST: usize = 4_611_686_018_427_387_885;
 
-fn is_too_large(progress: &Progress, at: usize) -> bool {
+fn is_too_large(progress: &Progress, at: usize) -> bool
+    requires { at ≤ last_place }
+{
     let fault = progress.head_fault(STOP, at);
     matches!(fault, Some(Why::TooLarge { bytes: 19 }))
 }
