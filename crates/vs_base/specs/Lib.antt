@@ -7,3 +7,4 @@ pub mod Keys
 pub mod Picks
 pub mod Blanks
 pub mod Rows
+pub mod Frames

@@ -1,4 +1,7 @@
-use crate::{Gtid, Text};
+ghost use Rattle.std.specs.Prelude.{◌≡◌, IfOk};
+
+use crate::{Gtid, OutOfMemory, Text};
+use std::alloc::Global;
 
 /// What is wrong with an event of a log. The place of the event is told beside it.
 #[derive(Debug, Drop, PartialEq, Eq)]
@@ -47,4 +50,43 @@ pub enum Why {
     JournalNotAlone,
     /// The log goes on with what this release does not do.
     NotBuilt,
+}
+
+impl Why {
+    pub fn copy(&self, alloc: Global) -> Result<Why, OutOfMemory>
+        ensures { IfOk result (λ w. w ≡ self.now) }
+    {
+        Ok(match self {
+            Why::BadMagic => Why::BadMagic,
+            Why::NoFormat => Why::NoFormat,
+            Why::BadVersion { version } => Why::BadVersion { version: *version },
+            Why::Checksummed { kind } => Why::Checksummed { kind: *kind },
+            Why::BadLength { length } => Why::BadLength { length: *length },
+            Why::BadEvent { kind } => Why::BadEvent { kind: *kind },
+            Why::BadOrder { kind } => Why::BadOrder { kind: *kind },
+            Why::NestedBegin => Why::NestedBegin,
+            Why::Anonymous => Why::Anonymous,
+            Why::BadGtid => Why::BadGtid,
+            Why::RepeatedGtid { gtid } => Why::RepeatedGtid { gtid: *gtid },
+            Why::Unsupported { kind } => Why::Unsupported { kind: *kind },
+            Why::UnsupportedStatement => Why::UnsupportedStatement,
+            Why::TooLarge { bytes } => Why::TooLarge { bytes: *bytes },
+            Why::TooManyIntervals => Why::TooManyIntervals,
+            Why::UnknownTableId { id } => Why::UnknownTableId { id: *id },
+            Why::UnknownTable { table } => Why::UnknownTable {
+                table: table.copy(alloc)?,
+            },
+            Why::Disagrees { table } => Why::Disagrees {
+                table: table.copy(alloc)?,
+            },
+            Why::NotFullImage { table } => Why::NotFullImage {
+                table: table.copy(alloc)?,
+            },
+            Why::BadRow { table } => Why::BadRow {
+                table: table.copy(alloc)?,
+            },
+            Why::JournalNotAlone => Why::JournalNotAlone,
+            Why::NotBuilt => Why::NotBuilt,
+        })
+    }
 }

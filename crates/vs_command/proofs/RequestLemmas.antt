@@ -4,7 +4,8 @@ use Rattle.std.proofs.lemmas.List.{length-take}
 use Rattle.std.specs.Prelude.{IfSome, IsTrue, ◌⊎◌, ◌||◌, nat_le}
 use Rattle.std.specs.List.{AllByRecursion, list_all}
 use Rattle.std.specs.Int.{w32, to_be_bytes}
-use Rattle.vs_frame.specs.Frames.{BeginsWithFrame, IsPart, IsWithinLimit, framed}
+use Rattle.vs_base.specs.Frames.{framed}
+use Rattle.vs_frame.specs.Frames.{BeginsWithFrame, IsPart, IsWithinLimit}
 use Rattle.vs_outside.specs.Told.{Takes}
 use Rattle.vs_base.specs.Names.{FitsName}
 use Rattle.vs_outside.specs.Names.{has_name_length, is_dots, is_keyspace_text, is_name_byte, is_shard_byte, is_shard_text}

@@ -3,7 +3,8 @@ use Rattle.std.specs.Prelude.{◌≡◌, ◌≢◌, ◌≤◌, ◌<◌, ◌+◌,
 use Rattle.std.specs.Int.{w32, to_be_bytes}
 use Rattle.vs_base.specs.Limits.{most_message}
 use Rattle.vs_base.specs.declared.ShardName.{ShardName}
-use Rattle.vs_frame.specs.Frames.{BeginsWithFrame, IsPart, IsTooLong, IsWithinLimit, framed}
+use Rattle.vs_base.specs.Frames.{framed}
+use Rattle.vs_frame.specs.Frames.{BeginsWithFrame, IsPart, IsTooLong, IsWithinLimit}
 use Rattle.vs_request.specs.Requests.{Says}
 use Rattle.vs_request.specs.declared.request.Flags.{Flags}
 use Rattle.vs_request.specs.declared.request.Request.{Request}

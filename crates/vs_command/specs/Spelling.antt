@@ -9,7 +9,7 @@ use Rattle.vs_base.specs.declared.Cell.TheVariants.{Null, Bytes}
 use Rattle.vs_gtid.specs.declared.Work.{Work}
 use Rattle.vs_gtid.specs.declared.Work.TheVariants.{Rows, Ddl, Other, Journal}
 use Rattle.vs_gtid.specs.Text.{position_text}
-use Rattle.vs_frame.specs.Frames.{framed}
+use Rattle.vs_base.specs.Frames.{framed}
 use Rattle.vs_proto.specs.Shapes.{spelling}
 use Rattle.vs_proto.specs.Tables.{response}
 use Rattle.vs_proto.specs.declared.event_kind.TheConstants.{BEGIN, COMMIT, DDL, OTHER, VGTID}

@@ -5,7 +5,8 @@ use Rattle.std.proofs.lemmas.List.{take-append-drop}
 use Rattle.std.proofs.lemmas.List.Elements.{All-head, All-tail, All-append, All-cons, All-nil}
 use Rattle.std.proofs.lemmas.Nat.{be_bytes_4, from_be_bytes-to_be_bytes_4}
 use Rattle.std.proofs.Math.Seq.{take-append_seam, drop-append_seam}
-use Rattle.vs_frame.specs.Frames.{framed, frames_bytes, IsWithinLimit, BeginsWithFrame, HasFrame, IsGiven, HasNoFrame}
+use Rattle.vs_base.specs.Frames.{framed}
+use Rattle.vs_frame.specs.Frames.{frames_bytes, IsWithinLimit, BeginsWithFrame, HasFrame, IsGiven, HasNoFrame}
 
 -- ---- four bytes are a length
 

@@ -1,12 +1,10 @@
--- A frame is a message behind its length, in four bytes, the highest first.
+-- Frames one after the other, what stands at the front of some bytes, and a framer.
 use Rattle.std.specs.Prelude.{◌≡◌, ℕ, ◌^◌, ◌<◌, ◌≤◌, ◌⊎◌, List, [], ◌∷◌, ◌++◌, length, All, Option, Some, None, Result, Ok, Err}
 use Rattle.std.specs.Int.{w32, to_be_bytes}
+use Rattle.vs_base.specs.Frames.{framed}
 use Rattle.vs_base.specs.Limits.{most_message}
 use Rattle.vs_frame.specs.declared.refusal.FrameRefusal.{FrameRefusal}
 use Rattle.vs_frame.specs.declared.refusal.FrameRefusal.TheVariants.{FrameTooLong, Memory}
-
-abbrev pub framed : List ℕ → List ℕ
-framed message = to_be_bytes w32 (length message) ++ message
 
 -- frames one after the other
 abbrev pub frames_bytes : List (List ℕ) → List ℕ

@@ -1,5 +1,6 @@
 ghost use Rattle.std.specs.Prelude.{◌≡◌, ◌++◌, OnErr, OnOk, length, take};
-ghost use Rattle.vs_frame.specs.Frames.{IsWithinLimit, framed};
+ghost use Rattle.vs_base.specs.Frames.{framed};
+ghost use Rattle.vs_frame.specs.Frames.{IsWithinLimit};
 
 use crate::OutOfMemory;
 use std::alloc::Global;

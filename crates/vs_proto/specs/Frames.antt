@@ -1,7 +1,7 @@
 -- Messages on the wire, each behind four bytes of its length, and frames, which are messages in a row.
 use Rattle.std.specs.Prelude.{◌≡◌, ℕ, ◌^◌, ◌<◌, Bool, true, false, List, [], ◌∷◌, ◌++◌, length}
 use Rattle.std.specs.List.{AllByRecursion, flat_map}
-use Rattle.vs_frame.specs.Frames.{framed}
+use Rattle.vs_base.specs.Frames.{framed}
 use Rattle.vs_proto.specs.declared.event.VEvent.{VEvent}
 use Rattle.vs_proto.specs.Shapes.{spelling, fits}
 use Rattle.vs_proto.specs.Tables.{response}

@@ -10,7 +10,7 @@ use Rattle.vs_gtid.specs.declared.Entry.{Entry}
 use Rattle.vs_gtid.specs.declared.Work.{Work}
 use Rattle.vs_gtid.specs.declared.Work.TheVariants.{Rows, Ddl, Other, Journal}
 use Rattle.vs_wire.specs.Fields.{sized, field_bytes}
-use Rattle.vs_frame.specs.Frames.{framed}
+use Rattle.vs_base.specs.Frames.{framed}
 use Rattle.vs_proto.specs.Frames.{events_bytes}
 use Rattle.vs_proto.specs.Frames as proto
 use Rattle.vs_proto.specs.Shapes.{spelling}

@@ -4,7 +4,7 @@ use Rattle.std.proofs.lemmas.List.{drop-append-le, drop-drop, length-drop, take-
 use Rattle.std.proofs.Math.Seq.{drop-append-add, take-append-add, take-length}
 use Rattle.std.proofs.lemmas.List.{append-nil}
 use Rattle.std.specs.List.{flat_map}
-use Rattle.vs_frame.specs.Frames.{framed}
+use Rattle.vs_base.specs.Frames.{framed}
 use Rattle.vs_render.specs.Groups.{at_last}
 use Rattle.vs_render.specs.Bodies.{behind_pieces, body_bytes, body_in, pieces, total_length}
 

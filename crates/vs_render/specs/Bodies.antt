@@ -7,7 +7,7 @@ use Rattle.vs_base.specs.declared.ShardName.{ShardName}
 use Rattle.vs_base.specs.declared.Cell.{Cell}
 use Rattle.vs_base.specs.declared.Change.{Change}
 use Rattle.vs_base.specs.declared.table.Column.{Column}
-use Rattle.vs_frame.specs.Frames.{framed}
+use Rattle.vs_base.specs.Frames.{framed}
 use Rattle.vs_pool.specs.Buffers.{Buffer}
 use Rattle.vs_gtid.specs.declared.Work.{Work}
 use Rattle.vs_gtid.specs.declared.Work.TheVariants.{Rows, Ddl, Other, Journal}

@@ -16,7 +16,7 @@ ghost use Rattle.std.specs.Prelude.{
   take,
 };
 ghost use Rattle.std.specs.List.{flat_map};
-ghost use Rattle.vs_frame.specs.Frames.{framed};
+ghost use Rattle.vs_base.specs.Frames.{framed};
 ghost use Rattle.vs_proto.specs.Frames.{events_bytes};
 ghost use Rattle.vs_gtid.specs.Vectors.{Vector};
 ghost use Rattle.vs_render.specs.Groups.{at_last};

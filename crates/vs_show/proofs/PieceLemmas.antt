@@ -2,7 +2,8 @@
 use Rattle.std.proofs.Common.{◌≡◌, ℕ, ◌+◌, ◌∙◌, List, [], ◌++◌, Some, None, Ok, Err, refl, ap, sym, subst, inl, inr, append_assoc, append-nil}
 use Rattle.std.specs.Prelude.{true, false}
 use Rattle.std.specs.Int.{w32, to_be_bytes}
-use Rattle.vs_frame.specs.Frames.{BeginsWithFrame, GivesFrame, Held, IsPart, IsTooLong, framed}
+use Rattle.vs_base.specs.Frames.{framed}
+use Rattle.vs_frame.specs.Frames.{BeginsWithFrame, GivesFrame, Held, IsPart, IsTooLong}
 use Rattle.vs_frame.specs.declared.refusal.FrameRefusal.TheVariants.{FrameTooLong}
 use Rattle.vs_frame.specs.declared.refusal.FrameWhy.{FrameWhy}
 use Rattle.vs_frame.specs.declared.refusal.FrameWhy.TheVariants.{Message, TooLong}

@@ -6,7 +6,8 @@ use Rattle.std.proofs.lemmas.Bool.{ltb-true, ltb-false, eqb-true, eqb-false, con
 use Rattle.std.proofs.lemmas.List.Elements.{All-head, All-tail, All-cons, All-nil, All-drop}
 use Rattle.std.proofs.Math.Seq.{drop-append_seam}
 use Rattle.std.proofs.lemmas.List.{take-append-drop}
-use Rattle.vs_frame.specs.Frames.{BeginsWithFrame, IsGiven, IsPart, IsTooLong, IsWithinLimit, framed, frames_bytes}
+use Rattle.vs_base.specs.Frames.{framed}
+use Rattle.vs_frame.specs.Frames.{BeginsWithFrame, IsGiven, IsPart, IsTooLong, IsWithinLimit, frames_bytes}
 use Rattle.vs_frame.proofs.FrameLemmas.{head_is}
 use Rattle.vs_frame.specs.declared.refusal.FrameWhy.{FrameWhy}
 use Rattle.vs_frame.specs.declared.refusal.FrameWhy.TheVariants.{Cut, TooLong, Message}

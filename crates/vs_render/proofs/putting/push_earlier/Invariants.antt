@@ -1,7 +1,7 @@
 -- What is written, and what is still to be written from the place on, are all of it.
 use Rattle.std.proofs.Common.{◌≡◌, ◌++◌, ◌+◌, drop, length, take}
 use Rattle.std.specs.List.{flat_map}
-use Rattle.vs_frame.specs.Frames.{framed}
+use Rattle.vs_base.specs.Frames.{framed}
 use Rattle.vs_render.specs.Bodies.{pieces, total_length}
 use Rattle.vs_render.proofs.putting.push_earlier.Given as goal
 

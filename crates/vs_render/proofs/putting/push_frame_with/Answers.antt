@@ -1,6 +1,6 @@
 use Rattle.std.proofs.Common.{arith, ◌≡◌, ◌++◌, ◌+◌, ◌≤◌, [], ◌∷◌, ap, ◌∙◌, length, ℕ, List}
 use Rattle.std.specs.List.{flat_map}
-use Rattle.vs_frame.specs.Frames.{framed}
+use Rattle.vs_base.specs.Frames.{framed}
 use Rattle.vs_proto.specs.Frames.{events_bytes}
 use Rattle.vs_render.specs.Groups.{at_last}
 use Rattle.vs_render.specs.Events.{head_of, vector_event}
