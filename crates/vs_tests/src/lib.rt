@@ -6,6 +6,8 @@ mod calls;
 #[cfg(test)]
 mod case;
 #[cfg(test)]
+mod gathers;
+#[cfg(test)]
 mod logs;
 #[cfg(test)]
 mod refusals;
