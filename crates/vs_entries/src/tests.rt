@@ -7,22 +7,36 @@ use crate::kind::StatementKind;
 use crate::progress::Progress;
 use crate::query::kind_of;
 use crate::{LogRefusal, Reader, Took, law_no_journals, law_part};
-use std::alloc::Global;
+use std::alloc::{AllocError, Global};
 use std::process::Abort;
-use std::test::Fail;
 use vs_base::{OutOfMemory, Why};
-use vs_journal::Work;
+use vs_journal::{Entry, Work};
 use vs_schema::Schema;
 
 const SCHEMA: &[u8] = b"table t\ncolumn id int\ncolumn v varchar(20)\nkey id\nskip s\n";
 
 /// A reader of the keyspace c that was fed nothing.
-fn reader(alloc: Global) -> Result<Reader, Fail> {
-    let schema = Schema::read(alloc, SCHEMA)?;
-    Ok(Reader::new(alloc, &schema, b"c")?)
+fn reader(alloc: Global) -> Result<Reader, OutOfMemory> {
+    match Schema::read(alloc, SCHEMA) {
+        Ok(schema) => Reader::new(alloc, &schema, b"c"),
+        Err(_) => Err(AllocError),
+    }
 }
 
-/// What a log begins with, without a base and with an empty one; and an entry that is open behind it.
+/// What a log begins with, before the events of a case.
+#[derive(Clone, Copy)]
+enum Beginning {
+    Nothing,
+    /// the format description
+    Format,
+    /// the same and a base of no GTID
+    NoBase,
+    /// the same and the beginning of a transaction
+    Open,
+    /// the format description, and a base of all odd numbers up to 2,047
+    Odds,
+}
+
 const START: &[&[u8]] = &[MAGIC, FORMAT];
 
 const FRONT: &[&[u8]] = &[MAGIC, FORMAT, NO_BASE];
@@ -34,6 +48,32 @@ fn feed_all(reader: &mut Reader, events: &[&[u8]]) -> Result<(), OutOfMemory> {
         reader.feed(event)?;
     }
     Ok(())
+}
+
+/// The head of a base of 1,024 intervals, and the parts before the intervals.
+const ODDS: &[u8] = b"\0\0\0\0\x23\0\0\0\0\x33\x40\0\0\0\0\0\0\0\0\
+    \x01\0\0\0\0\0\0\0\0\0\0\0\0\0\0\0\0\0\0\0\0\0\0\x01\0\x04\0\0\0\0\0\0";
+
+/// Feeds such a base, each number as an interval of its own.
+fn feed_odds(reader: &mut Reader) -> Result<(), OutOfMemory> {
+    reader.feed(ODDS)?;
+    for number in 1u64..2049 {
+        reader.feed(&number.to_le_bytes())?;
+    }
+    Ok(())
+}
+
+fn feed_beginning(reader: &mut Reader, beginning: Beginning) -> Result<(), OutOfMemory> {
+    match beginning {
+        Beginning::Nothing => Ok(()),
+        Beginning::Format => feed_all(reader, START),
+        Beginning::NoBase => feed_all(reader, FRONT),
+        Beginning::Open => feed_all(reader, OPEN),
+        Beginning::Odds => {
+            feed_all(reader, START)?;
+            feed_odds(reader)
+        }
+    }
 }
 
 /// What a fault is called, and the number that it names.
@@ -64,42 +104,133 @@ fn fault_of(why: &Why) -> (&'static str, u64) {
     }
 }
 
-/// The number of the last entry that a reader gives (0 for none), and the fault behind it with what it
-/// names and its place; "open" where there is none.
+/// An answer of a reader, by numbers and names alone.
+#[derive(Clone, Copy)]
+enum Answer {
+    /// an entry by its number, its work and the size of that, its time, and its two places
+    Entry(u64, &'static str, u64, u32, u64, u64),
+    More,
+    /// what is wrong, the number that it names, and its place
+    Fault(&'static str, u64, u64),
+}
+
+fn work_of(work: &Work) -> (&'static str, u64) {
+    match work {
+        Work::Ddl(text) => ("ddl", text.as_bytes().len() as u64),
+        Work::Other => ("other", 0),
+        Work::Rows(changes) => ("rows", changes.as_slice().len() as u64),
+        Work::Journal(_) => ("journal", 0),
+    }
+}
+
+fn entry_answer(entry: &Entry, at: u64, end: u64) -> Answer {
+    let (name, size) = work_of(&entry.work);
+    Answer::Entry(entry.gtid.number, name, size, entry.time, at, end)
+}
+
+fn fault_answer(why: &Why, at: u64) -> Answer {
+    let (name, number) = fault_of(why);
+    Answer::Fault(name, number, at)
+}
+
+fn next_answer(reader: &mut Reader) -> Answer {
+    match reader.next_entry() {
+        Ok(Took::Entry { entry, at, end }) => entry_answer(&entry, at, end),
+        Ok(Took::More) => Answer::More,
+        Err(LogRefusal::BadLog { offset, why }) => fault_answer(&why, offset),
+        Err(LogRefusal::Memory) => Answer::Fault("no memory", 0, 0),
+    }
+}
+
+/// What a reader says: a number, a name, and two numbers more.
 type Told = (u64, &'static str, u64, u64);
 
-fn told(reader: &mut Reader) -> Told {
+const NO_MEMORY: Told = (0, "no memory", 0, 0);
+
+/// The number of the last entry (0 for none), and the fault behind it with what it names and its
+/// place; "open" where there is none.
+fn end_of(reader: &mut Reader) -> Told {
     let mut last = 0;
     for _ in 0..5 {
-        match reader.next_entry() {
-            Ok(Took::Entry { entry, .. }) => last = entry.gtid.number,
-            Ok(Took::More) => return (last, "open", 0, 0),
-            Err(LogRefusal::BadLog { offset, why }) => {
-                let (name, number) = fault_of(&why);
-                return (last, name, number, offset);
-            }
-            Err(LogRefusal::Memory) => return (last, "no memory", 0, 0),
+        match next_answer(reader) {
+            Answer::Entry(number, ..) => last = number,
+            Answer::More => return (last, "open", 0, 0),
+            Answer::Fault(name, number, at) => return (last, name, number, at),
         }
     }
     (last, "more entries", 0, 0)
 }
 
-fn told_of(alloc: Global, front: &[&[u8]], events: &[&[u8]]) -> Result<Told, Fail> {
-    let mut reader = reader(alloc)?;
-    feed_all(&mut reader, front)?;
-    feed_all(&mut reader, events)?;
-    Ok(told(&mut reader))
+/// The same, where it is the same once more bytes came.
+fn end_for_good(reader: &mut Reader) -> Told {
+    let before = end_of(reader);
+    if feed_all(reader, &[GTID_1, DROP_T]).is_err() {
+        return NO_MEMORY;
+    }
+    let after = end_of(reader);
+    if after == before {
+        before
+    } else {
+        (0, "something else", 0, 0)
+    }
+}
+
+/// The size of the next entry, its work, its time and the place behind it.
+fn entry_of(reader: &mut Reader) -> Told {
+    match next_answer(reader) {
+        Answer::Entry(_, work, size, time, _, end) => (size, work, time as u64, end),
+        _ => (0, "no entry", 0, 0),
+    }
+}
+
+/// How many intervals the base has, once it is known.
+fn base_of(reader: &mut Reader) -> Told {
+    match reader.base() {
+        Some(base) => (base.intervals() as u64, "intervals", 0, 0),
+        None => (0, "unknown", 0, 0),
+    }
+}
+
+/// What a reader is asked, behind the events of a case.
+#[derive(Clone, Copy)]
+enum Ask {
+    End,
+    EndForGood,
+    Entry,
+    Base,
+    Bytes,
+}
+
+/// Feeds the events of a case, and asks.
+fn asked(reader: &mut Reader, beginning: Beginning, ask: Ask, events: &[&[u8]]) -> Told {
+    if feed_beginning(reader, beginning).is_err() || feed_all(reader, events).is_err() {
+        return NO_MEMORY;
+    }
+    match ask {
+        Ask::End => end_of(reader),
+        Ask::EndForGood => end_for_good(reader),
+        Ask::Entry => entry_of(reader),
+        Ask::Base => base_of(reader),
+        Ask::Bytes => held_after_bytes(reader),
+    }
+}
+
+/// The same of a reader of its own. No other function owns one, since its proof grows with what it owns.
+fn told_of(alloc: Global, beginning: Beginning, ask: Ask, events: &[&[u8]]) -> Told {
+    match reader(alloc) {
+        Ok(mut reader) => asked(&mut reader, beginning, ask, events),
+        Err(_) => NO_MEMORY,
+    }
 }
 
 /// Events of a log, and what a reader tells of it.
 type Case = (&'static [&'static [u8]], Told);
 
-/// Checks logs that begin with the same events.
-fn check(rt: &impl Abort, alloc: Global, front: &[&[u8]], cases: &[Case]) -> Result<(), Fail> {
+/// Checks logs that begin alike.
+fn check(rt: &impl Abort, alloc: Global, beginning: Beginning, ask: Ask, cases: &[Case]) {
     for (events, wanted) in cases {
-        assert_eq!(rt; told_of(alloc, front, events)?, *wanted);
+        assert_eq!(rt; told_of(alloc, beginning, ask, events), *wanted);
     }
-    Ok(())
 }
 
 /// Logs from their first byte on. The faults of a format description have an order.
@@ -119,8 +250,8 @@ const STARTS: &[Case] = &[
 ];
 
 #[test]
-fn starts(rt: HostRuntime) -> Result<(), Fail> {
-    check(&rt, rt.alloc(), &[], STARTS)
+fn starts(rt: HostRuntime) {
+    check(&rt, rt.alloc(), Beginning::Nothing, Ask::End, STARTS);
 }
 
 /// Events behind the format description, from byte 85 on: bases, and GTIDs that stood before.
@@ -153,38 +284,36 @@ const BASES: &[Case] = &[
 ];
 
 #[test]
-fn bases(rt: HostRuntime) -> Result<(), Fail> {
-    check(&rt, rt.alloc(), START, BASES)
+fn bases(rt: HostRuntime) {
+    check(&rt, rt.alloc(), Beginning::Format, Ask::End, BASES);
 }
 
 /// Events behind the format description, and how many intervals the base has, once it is known.
-const INTERVALS: &[(&[&[u8]], Option<usize>)] = &[
-    (&[], None),
-    (&[STOP, IGNORABLE], None),
-    (&[NO_BASE], Some(0)),
-    (&[FIRST_FIVE], Some(1)),
-    (&[FLAGGED_FIVE], Some(1)),
-    (&[IGNORABLE, FIRST_FIVE], Some(1)),
-    (&[GTID_1], Some(0)),
-    (&[CUT_BASE], Some(0)),
+const INTERVALS: &[Case] = &[
+    (&[], (0, "unknown", 0, 0)),
+    (&[STOP, IGNORABLE], (0, "unknown", 0, 0)),
+    (&[NO_BASE], (0, "intervals", 0, 0)),
+    (&[FIRST_FIVE], (1, "intervals", 0, 0)),
+    (&[FLAGGED_FIVE], (1, "intervals", 0, 0)),
+    (&[IGNORABLE, FIRST_FIVE], (1, "intervals", 0, 0)),
+    (&[GTID_1], (0, "intervals", 0, 0)),
+    (&[CUT_BASE], (0, "intervals", 0, 0)),
 ];
 
-fn intervals_of(alloc: Global, events: &[&[u8]]) -> Result<Option<usize>, Fail> {
-    let mut reader = reader(alloc)?;
-    feed_all(&mut reader, START)?;
-    feed_all(&mut reader, events)?;
-    match reader.base() {
-        Some(base) => Ok(Some(base.intervals())),
-        None => Ok(None),
-    }
-}
+/// Behind a base of 1,024 intervals, at byte 16,520: a number that joins two, and two that don't.
+const SCATTERED: &[Case] = &[
+    (&[], (0, "open", 0, 0)),
+    (&[GTID_5000], (0, "too many intervals", 0, 16_520)),
+    (
+        &[GTID_2, DROP_T, GTID_5000, DROP_T, GTID_7000],
+        (5000, "too many intervals", 0, 16_706),
+    ),
+];
 
 #[test]
-fn intervals_of_bases(rt: HostRuntime) -> Result<(), Fail> {
-    for (events, wanted) in INTERVALS {
-        assert_eq!(rt; intervals_of(rt.alloc(), events)?, *wanted);
-    }
-    Ok(())
+fn intervals_of_bases(rt: HostRuntime) {
+    check(&rt, rt.alloc(), Beginning::Format, Ask::Base, INTERVALS);
+    check(&rt, rt.alloc(), Beginning::Odds, Ask::End, SCATTERED);
 }
 
 /// Events between entries, at byte 112, and behind a GTID event, at byte 156.
@@ -220,9 +349,15 @@ const INSIDE: &[Case] = &[
 ];
 
 #[test]
-fn orders(rt: HostRuntime) -> Result<(), Fail> {
-    check(&rt, rt.alloc(), FRONT, OUTSIDE)?;
-    check(&rt, rt.alloc(), OPEN, INSIDE)
+fn orders(rt: HostRuntime) {
+    check(&rt, rt.alloc(), Beginning::NoBase, Ask::End, OUTSIDE);
+    check(&rt, rt.alloc(), Beginning::Open, Ask::End, INSIDE);
+}
+
+#[test]
+fn tells_a_fault_for_good(rt: HostRuntime) {
+    check(&rt, rt.alloc(), Beginning::NoBase, Ask::EndForGood, OUTSIDE);
+    check(&rt, rt.alloc(), Beginning::Open, Ask::EndForGood, INSIDE);
 }
 
 /// Logs that end inside an entry, and events as long as may be. What is passed over counts alone.
@@ -239,8 +374,8 @@ const CUTS: &[Case] = &[
 ];
 
 #[test]
-fn cuts(rt: HostRuntime) -> Result<(), Fail> {
-    check(&rt, rt.alloc(), FRONT, CUTS)
+fn cuts(rt: HostRuntime) {
+    check(&rt, rt.alloc(), Beginning::NoBase, Ask::End, CUTS);
 }
 
 /// Table maps inside a transaction, at byte 198, and rows. Maps are forgotten at the next GTID event.
@@ -267,92 +402,58 @@ const ROWS: &[Case] = &[
 ];
 
 #[test]
-fn rows(rt: HostRuntime) -> Result<(), Fail> {
-    check(&rt, rt.alloc(), OPEN, ROWS)
-}
-
-fn work_of(work: &Work) -> (&'static str, usize) {
-    match work {
-        Work::Ddl(text) => ("ddl", text.as_bytes().len()),
-        Work::Other => ("other", 0),
-        Work::Rows(changes) => ("rows", changes.as_slice().len()),
-        Work::Journal(_) => ("journal", 0),
-    }
-}
-
-/// What the next entry says, its time and the place behind it.
-type Gave = (&'static str, usize, u32, u64);
-
-fn gave(reader: &mut Reader) -> Gave {
-    let Ok(Took::Entry { entry, end, .. }) = reader.next_entry() else {
-        return ("none", 0, 0, 0);
-    };
-    let (name, size) = work_of(&entry.work);
-    (name, size, entry.time, end)
-}
-
-fn gave_of(alloc: Global, events: &[&[u8]]) -> Result<Gave, Fail> {
-    let mut reader = reader(alloc)?;
-    feed_all(&mut reader, FRONT)?;
-    feed_all(&mut reader, events)?;
-    Ok(gave(&mut reader))
+fn rows(rt: HostRuntime) {
+    check(&rt, rt.alloc(), Beginning::Open, Ask::End, ROWS);
 }
 
 /// Entries behind a base, from byte 112 on: a statement with the length of its text, or the number of
 /// the changes of a transaction; the time of the last event, and the place behind it.
-const ENTRIES: &[(&[&[u8]], Gave)] = &[
-    (&[GTID_1, DROP_T], ("ddl", 12, 100, 205)),
-    (&[GTID_1, ROTATE, DROP_T], ("ddl", 12, 100, 224)),
-    (&[GTID_1, DROP_OTHERS], ("other", 0, 0, 205)),
-    (&[GTID_1, COMMIT], ("other", 0, 103, 199)),
-    (&[GTID_1, BEGIN, COMMIT], ("rows", 0, 103, 241)),
-    (&[GTID_1, BEGIN, XID], ("rows", 0, 104, 225)),
-    (&[GTID_1, BEGIN, LONG_XID], ("rows", 0, 0, 229)),
+const ENTRIES: &[Case] = &[
+    (&[GTID_1, DROP_T], (12, "ddl", 100, 205)),
+    (&[GTID_1, ROTATE, DROP_T], (12, "ddl", 100, 224)),
+    (&[GTID_1, DROP_OTHERS], (0, "other", 0, 205)),
+    (&[GTID_1, COMMIT], (0, "other", 103, 199)),
+    (&[GTID_1, BEGIN, COMMIT], (0, "rows", 103, 241)),
+    (&[GTID_1, BEGIN, XID], (0, "rows", 104, 225)),
+    (&[GTID_1, BEGIN, LONG_XID], (0, "rows", 0, 229)),
     (
         &[GTID_1, BEGIN, STOP, SAVEPOINT, IGNORABLE, XID],
-        ("rows", 0, 104, 311),
+        (0, "rows", 104, 311),
     ),
 ];
 
 /// The same of changes.
-const CHANGES: &[(&[&[u8]], Gave)] = &[
-    (&[GTID_1, BEGIN, MAP, XID], ("rows", 0, 104, 268)),
-    (&[GTID_1, BEGIN, MAP, INSERTS, XID], ("rows", 2, 104, 311)),
+const CHANGES: &[Case] = &[
+    (&[GTID_1, BEGIN, MAP, XID], (0, "rows", 104, 268)),
+    (&[GTID_1, BEGIN, MAP, INSERTS, XID], (2, "rows", 104, 311)),
     (
         &[GTID_1, BEGIN, MAP, SAVEPOINT, INSERTS, COMMIT],
-        ("rows", 2, 103, 375),
+        (2, "rows", 103, 375),
     ),
     (
         &[GTID_1, BEGIN, MAP, INSERTS, INSERTS, XID],
-        ("rows", 4, 104, 354),
+        (4, "rows", 104, 354),
     ),
-    (&[GTID_1, BEGIN, MAP, UPDATE, XID], ("rows", 1, 104, 310)),
-    (&[GTID_1, BEGIN, MAP, DELETE, XID], ("rows", 1, 104, 306)),
+    (&[GTID_1, BEGIN, MAP, UPDATE, XID], (1, "rows", 104, 310)),
+    (&[GTID_1, BEGIN, MAP, DELETE, XID], (1, "rows", 104, 306)),
     (
         &[GTID_1, BEGIN, MAP_OF_S, INSERTS, XID],
-        ("rows", 0, 104, 308),
+        (0, "rows", 104, 308),
     ),
     (
         &[GTID_1, BEGIN, JOURNAL, OTHERS, XID],
-        ("rows", 0, 104, 333),
+        (0, "rows", 104, 333),
     ),
     (
         &[GTID_1, BEGIN, JOURNAL, OURS_DELETED, XID],
-        ("rows", 0, 104, 333),
+        (0, "rows", 104, 333),
     ),
 ];
 
-fn check_gave(rt: &impl Abort, alloc: Global, cases: &[(&[&[u8]], Gave)]) -> Result<(), Fail> {
-    for (events, wanted) in cases {
-        assert_eq!(rt; gave_of(alloc, events)?, *wanted);
-    }
-    Ok(())
-}
-
 #[test]
-fn entries(rt: HostRuntime) -> Result<(), Fail> {
-    check_gave(&rt, rt.alloc(), ENTRIES)?;
-    check_gave(&rt, rt.alloc(), CHANGES)
+fn entries(rt: HostRuntime) {
+    check(&rt, rt.alloc(), Beginning::NoBase, Ask::Entry, ENTRIES);
+    check(&rt, rt.alloc(), Beginning::NoBase, Ask::Entry, CHANGES);
 }
 
 /// Statements in the log of a shard of the keyspace c, by their schema and their text.
@@ -408,21 +509,28 @@ fn is_too_large(progress: &Progress, at: usize) -> bool
     matches!(fault, Some(Why::TooLarge { bytes: 19 }))
 }
 
+/// Whether an event may stand at a place, and whether it is refused there as too large.
+fn ends_in_time(alloc: Global, at: usize) -> (bool, bool)
+    requires { at ≤ last_place }
+{
+    let progress = Progress::new(alloc);
+    (front_event(STOP, at).is_some(), is_too_large(&progress, at))
+}
+
 #[test]
 fn ends_by_the_last_place(rt: HostRuntime) {
-    let progress = Progress::new(rt.alloc());
-    assert!(rt; front_event(STOP, LAST).is_some());
-    assert!(rt; !is_too_large(&progress, LAST));
-    assert!(rt; front_event(STOP, LAST + 1).is_none());
-    assert!(rt; is_too_large(&progress, LAST + 1));
+    assert_eq!(rt; ends_in_time(rt.alloc(), LAST), (true, false));
+    assert_eq!(rt; ends_in_time(rt.alloc(), LAST + 1), (false, true));
 }
 
 /// Whether the next entry is the one so numbered, at this time and between these places.
 fn gives(reader: &mut Reader, number: u64, when: u32, from: u64, to: u64) -> bool {
-    let Ok(Took::Entry { entry, at, end }) = reader.next_entry() else {
-        return false;
-    };
-    entry.gtid.number == number && entry.time == when && at == from && end == to
+    match next_answer(reader) {
+        Answer::Entry(told, _, _, time, at, end) => {
+            told == number && time == when && at == from && end == to
+        }
+        _ => false,
+    }
 }
 
 /// Feeds the next byte of the two statements, and whether the answers behind it are right.
@@ -435,7 +543,7 @@ fn goes_on(reader: &mut Reader, byte: u8, fed: usize) -> bool {
         298 => gives(reader, 2, 101, 205, 298),
         _ => true,
     };
-    given && matches!(reader.next_entry(), Ok(Took::More)) && reader.held() < 81
+    given && matches!(next_answer(reader), Answer::More) && reader.held() < 81
 }
 
 const TWO_DROPS: &[&[u8]] = &[MAGIC, FORMAT, NO_BASE, GTID_1, DROP_T, GTID_2, DROP_S];
@@ -453,15 +561,23 @@ fn feed_bytes(reader: &mut Reader, event: &[u8], from: usize) -> usize {
     place
 }
 
-#[test]
-fn entries_byte_by_byte(rt: HostRuntime) -> Result<(), Fail> {
-    let mut reader = reader(rt.alloc())?;
+/// Feeds two statements so, and how many bytes are held behind them.
+fn held_after_bytes(reader: &mut Reader) -> Told {
     let mut place = 0;
     for event in TWO_DROPS {
-        place = feed_bytes(&mut reader, event, place);
+        place = feed_bytes(reader, event, place);
     }
-    assert_eq!(rt; (place, reader.held()), (298, 0));
+    (place as u64, "held", reader.held() as u64, 0)
+}
+
+#[test]
+fn entries_byte_by_byte(rt: HostRuntime) {
+    let told = told_of(rt.alloc(), Beginning::Nothing, Ask::Bytes, &[]);
+    assert_eq!(rt; told, (298, "held", 0, 0));
+}
+
+#[test]
+fn laws_can_be_called() {
     law_no_journals();
     law_part();
-    Ok(())
 }

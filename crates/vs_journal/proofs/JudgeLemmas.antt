@@ -31,7 +31,7 @@ use Rattle.vs_journal.specs.declared.refusal.JournalRefusal.TheVariants.{TooMany
 use Rattle.vs_journal.specs.Refusals.{is_want_of_memory}
 use Rattle.vs_journal.specs.NameOrder.{entry_of, name_cmp, plain_entry}
 
--- ---- one more that is lawful, and one that isn't
+-- ---- elements made one by one, up to one that isn't lawful
 
 behind_front : {B : Type 0} (front : List B) (y : B) (o : Option (List B)) → option_map (λ ys. front ++ ys) (option_map (λ zs. y ∷ zs) o) ≡ option_map (λ ys. (front ++ y ∷ []) ++ ys) o
 behind_front front y None = refl
@@ -45,29 +45,36 @@ item_at ms i m within at =
     let e : suc i ≡ i + 1 = omega arith in
     drop-cons ms i m within ∙ ap (λ x. x ∷ drop (suc i) ms) (sym at) ∙ ap (λ k. m ∷ drop k ms) e
 
-pub stopped_at : {A B : Type 0} (f : A → Option B) (front : List B) (ms : List A) (i : ℕ) (m : A) → i < length ms → m ≡ get_or ms i m → f m ≡ None → option_map (λ ys. front ++ ys) (all_some f (drop i ms)) ≡ all_some f ms → None ≡ all_some f ms
-stopped_at f front ms i m within at none was =
-    ap (λ o. option_map (λ ys. front ++ ys) (option_and_then (λ z. option_map (λ zs. z ∷ zs) (all_some f (drop (i + 1) ms))) o)) (sym none)
-    ∙ ap (λ xs. option_map (λ ys. front ++ ys) (all_some f xs)) (sym (item_at ms i m within at)) ∙ was
-
-pub gone_on : {A B : Type 0} (f : A → Option B) (front : List B) (ms : List A) (i : ℕ) (m : A) (y : B) → i < length ms → m ≡ get_or ms i m → f m ≡ Some y → option_map (λ ys. front ++ ys) (all_some f (drop i ms)) ≡ all_some f ms → option_map (λ ys. (front ++ y ∷ []) ++ ys) (all_some f (drop (i + 1) ms)) ≡ all_some f ms
-gone_on f front ms i m y within at some was =
-    sym (all_some_more f front m (drop (i + 1) ms) y some)
-    ∙ ap (λ xs. option_map (λ ys. front ++ ys) (all_some f xs)) (sym (item_at ms i m within at)) ∙ was
-
 drop_past : {A : Type 0} (xs : List A) (i : ℕ) → length xs ≤ i → drop i xs ≡ []
 drop_past [] zero h = refl
 drop_past [] (suc i) h = refl
 drop_past (x ∷ xs) zero h = absurd (omega arith)
 drop_past (x ∷ xs) (suc i) h = drop_past xs i (omega arith)
 
-pub came_to_end : {A B : Type 0} (f : A → Option B) (front : List B) (ms : List A) (i : ℕ) → length ms ≤ i → option_map (λ ys. front ++ ys) (all_some f (drop i ms)) ≡ all_some f ms → Some front ≡ all_some f ms
-came_to_end f front ms i past was =
-    ap Some (sym (append-nil front)) ∙ ap (λ xs. option_map (λ ys. front ++ ys) (all_some f xs)) (sym (drop_past ms i past)) ∙ was
-
-pub map_pushed : {A B : Type 0} (f : A → B) (xs : List A) (x : A) → map f (xs ++ x ∷ []) ≡ map f xs ++ f x ∷ []
+map_pushed : {A B : Type 0} (f : A → B) (xs : List A) (x : A) → map f (xs ++ x ∷ []) ≡ map f xs ++ f x ∷ []
 map_pushed f [] x = refl
 map_pushed f (y ∷ ys) x = ap (λ zs. f y ∷ zs) (map_pushed f ys x)
+
+-- What was made of the elements before a place, seen without what its type keeps, stands in front of what is made of those from there on.
+abbrev pub IsMadeUpTo : {A B C : Type 0} → (A → Option C) → (B → C) → List A → ℕ → List B → Type 0
+IsMadeUpTo f plain ms i made = option_map (λ ys. map plain made ++ ys) (all_some f (drop i ms)) ≡ all_some f ms
+
+pub made_one_more : {A B C : Type 0} (f : A → Option C) (plain : B → C) (ms : List A) (i : ℕ) (m : A) (made longer : List B) (x : B) (o : Option B) → i < length ms → m ≡ get_or ms i m
+    → option_map plain o ≡ f m → o ≡ Some x → longer ≡ made ++ x ∷ [] → IsMadeUpTo f plain ms i made → IsMadeUpTo f plain ms (i + 1) longer
+made_one_more f plain ms i m made longer x o within at lawful some pushed was =
+    ap (λ zs. option_map (λ ys. zs ++ ys) (all_some f (drop (i + 1) ms))) (ap (map plain) pushed ∙ map_pushed plain made x)
+    ∙ sym (all_some_more f (map plain made) m (drop (i + 1) ms) (plain x) (sym lawful ∙ ap (option_map plain) some))
+    ∙ ap (λ xs. option_map (λ ys. map plain made ++ ys) (all_some f xs)) (sym (item_at ms i m within at)) ∙ was
+
+pub made_none : {A B C : Type 0} (f : A → Option C) (plain : B → C) (ms : List A) (i : ℕ) (m : A) (made : List B) (o : Option B) → i < length ms → m ≡ get_or ms i m
+    → option_map plain o ≡ f m → o ≡ None → IsMadeUpTo f plain ms i made → None ≡ all_some f ms
+made_none f plain ms i m made o within at lawful none was =
+    ap (λ o. option_map (λ ys. map plain made ++ ys) (option_and_then (λ z. option_map (λ zs. z ∷ zs) (all_some f (drop (i + 1) ms))) o)) (ap (option_map plain) (sym none) ∙ lawful)
+    ∙ ap (λ xs. option_map (λ ys. map plain made ++ ys) (all_some f xs)) (sym (item_at ms i m within at)) ∙ was
+
+pub made_all : {A B C : Type 0} (f : A → Option C) (plain : B → C) (ms : List A) (i : ℕ) (made : List B) → length ms ≤ i → IsMadeUpTo f plain ms i made → Some (map plain made) ≡ all_some f ms
+made_all f plain ms i made past was =
+    ap Some (sym (append-nil (map plain made))) ∙ ap (λ xs. option_map (λ ys. map plain made ++ ys) (all_some f xs)) (sym (drop_past ms i past)) ∙ was
 
 -- ---- positions
 

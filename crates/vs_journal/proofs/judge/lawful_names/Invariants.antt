@@ -1,8 +1,6 @@
-use Rattle.std.proofs.Common.{◌≡◌, ◌++◌, drop, map}
-use Rattle.std.specs.Prelude.{option_map}
-use Rattle.vs_journal.specs.Judgement.{all_some, lawful_name, plain_name}
+use Rattle.vs_journal.specs.Judgement.{lawful_name, plain_name}
+use Rattle.vs_journal.proofs.JudgeLemmas.{IsMadeUpTo}
 use Rattle.vs_journal.proofs.judge.lawful_names.Given as goal
 
--- the names so far stand in front of those of what is left
 abbrev pub invariant-loop-member : goal.invariant-loop-member
-invariant-loop-member l = option_map (λ ys. map plain_name l.names.items ++ ys) (all_some lawful_name (drop l.member-index l.members)) ≡ all_some lawful_name l.members
+invariant-loop-member l = IsMadeUpTo lawful_name plain_name l.members l.member-index l.names.items

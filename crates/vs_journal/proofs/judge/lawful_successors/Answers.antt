@@ -1,22 +1,17 @@
-use Rattle.std.proofs.Common.{◌≡◌, ◌++◌, ◌∙◌, ◌∷◌, [], ◌+◌, drop, map, ap, sym, arith}
-use Rattle.std.specs.Prelude.{option_map}
-use Rattle.vs_journal.specs.Judgement.{all_some, lawful_successor, plain_successor}
-use Rattle.vs_journal.proofs.JudgeLemmas.{came_to_end, gone_on, map_pushed, stopped_at}
+use Rattle.std.proofs.Common.{arith}
+use Rattle.vs_journal.specs.Judgement.{lawful_successor, plain_successor}
+use Rattle.vs_journal.proofs.JudgeLemmas.{made_all, made_none, made_one_more}
 use Rattle.vs_journal.proofs.judge.lawful_successors.Goals as goal
 
 pub returns-in-None : goal.returns-in-None
 returns-in-None c =
-    stopped_at lawful_successor (map plain_successor c.loop-member.successors.items) c.args.members.now c.loop-member.member-index c.member-item.result c.loop-member-test.true c.member-item.is
-    (sym c.in_ok-successor.ensures ∙ ap (option_map plain_successor) c.in-None.is) c.loop-member.invariant
+    made_none lawful_successor plain_successor c.args.members.now c.loop-member.member-index c.member-item.result c.loop-member.successors.items _
+    c.loop-member-test.true c.member-item.is c.in_ok-successor.ensures c.in-None.is c.loop-member.invariant
 
 pub loop-member-preserved : goal.loop-member-preserved
 loop-member-preserved c =
-    let i = c.loop-member.member-index in
-    let ms = c.args.members.now in
-    let pushed : c.push.new.self.items ≡ c.loop-member.successors.items ++ c.in-Some.successor ∷ [] = c.in_ok-push-in-Some.ensures.items in
-    ap (λ zs. option_map (λ ys. zs ++ ys) (all_some lawful_successor (drop (i + 1) ms))) (ap (map plain_successor) pushed ∙ map_pushed plain_successor c.loop-member.successors.items c.in-Some.successor)
-    ∙ gone_on lawful_successor (map plain_successor c.loop-member.successors.items) ms i c.member-item.result (plain_successor c.in-Some.successor) c.loop-member-test.true c.member-item.is
-    (sym c.in_ok-successor.ensures ∙ ap (option_map plain_successor) c.in-Some.is) c.loop-member.invariant
+    made_one_more lawful_successor plain_successor c.args.members.now c.loop-member.member-index c.member-item.result c.loop-member.successors.items c.push.new.self.items c.in-Some.successor _
+    c.loop-member-test.true c.member-item.is c.in_ok-successor.ensures c.in-Some.is c.in_ok-push-in-Some.ensures.items c.loop-member.invariant
 
 pub returns : goal.returns
-returns c = came_to_end lawful_successor (map plain_successor c.loop-member.successors.items) c.args.members.now c.loop-member.member-index (omega arith) c.loop-member.invariant
+returns c = made_all lawful_successor plain_successor c.args.members.now c.loop-member.member-index c.loop-member.successors.items (omega arith) c.loop-member.invariant
