@@ -71,6 +71,19 @@ const ROWS_OF_EIGHT: &[u8] =
     b"d\0\0\0\x1e\x01\0\0\0+\0\0\0\0\0\0\0\0\0\x08\0\0\0\0\0\x01\0\x02\0\x02\x03\0\x05\0\0\0\
     \x01a\x02\x06\0\0\0";
 
+/// An event of rows of the number 7 that puts the one row 5 and `a`.
+const INSERT: &[u8] =
+    b"d\0\0\0\x1e\x01\0\0\0&\0\0\0\0\0\0\0\0\0\x07\0\0\0\0\0\x01\0\x02\0\x02\x03\0\x05\0\0\0\
+    \x01a";
+
+/// Its first ten bytes.
+const BEGUN_INSERT: &[u8] = b"d\0\0\0\x1e\x01\0\0\0&";
+
+/// An event of rows of the number 7 that turns the row 5 and `a` into 50 and `a`.
+const UPDATE: &[u8] =
+    b"d\0\0\0\x1f\x01\0\0\0.\0\0\0\0\0\0\0\0\0\x07\0\0\0\0\0\x01\0\x02\0\x02\x03\x03\0\x05\0\
+    \0\0\x01a\0\x32\0\0\0\x01a";
+
 /// The event that ends a transaction.
 const XID: &[u8] = b"d\0\0\0\x10\x01\0\0\0\x1b\0\0\0\0\0\0\0\0\0\0\0\0\0\0\0\0\0";
 
@@ -113,7 +126,28 @@ pub const NO_ROWS: &[&[u8]] = &[FORMAT, EMPTY_BASE, FIRST_GTID, BEGIN, XID];
 /// A transaction that puts two rows into the table t: 5 and `a`, and 6 and NULL.
 pub const TWO_ROWS: &[&[u8]] = &[FORMAT, EMPTY_BASE, FIRST_GTID, BEGIN, TABLE_MAP, ROWS, XID];
 
-/// It where the rows are those of a table number that no table map tells.
+/// A transaction that puts the row 5 and `a` into the table t.
+pub const ONE_ROW: &[&[u8]] = &[FORMAT, EMPTY_BASE, FIRST_GTID, BEGIN, TABLE_MAP, INSERT, XID];
+
+/// A transaction that turns that row into 50 and `a`.
+pub const UPDATED: &[&[u8]] = &[FORMAT, EMPTY_BASE, FIRST_GTID, BEGIN, TABLE_MAP, UPDATE, XID];
+
+/// The first one, and another that is cut ten bytes into its rows.
+pub const CUT_ROWS: &[&[u8]] = &[
+    FORMAT,
+    EMPTY_BASE,
+    FIRST_GTID,
+    BEGIN,
+    TABLE_MAP,
+    INSERT,
+    XID,
+    SECOND_GTID,
+    BEGIN,
+    TABLE_MAP,
+    BEGUN_INSERT,
+];
+
+/// Two rows where the rows are those of a table number that no table map tells.
 pub const UNMAPPED_ROWS: &[&[u8]] = &[
     FORMAT,
     EMPTY_BASE,

@@ -7,13 +7,13 @@ use crate::logs::{
     WITHOUT_ENTRIES,
 };
 use crate::requests::{
-    BEHIND_FIRST, BEHIND_FOUR, BEHIND_OTHERS, BEHIND_TEN, FROM_THE_END, UNKNOWN, WIDE_HEAD,
-    WITH_MORE,
+    BEHIND_FIRST, BEHIND_FOUR, BEHIND_OTHERS, BEHIND_TEN, FROM_THE_END, UNBOUND, UNKNOWN, WIDE_HEAD,
+    WITH_MORE, WITH_RULE,
 };
 use std::alloc::{AllocError, Global};
 use vs_outside::{FeedAnswer, SinkAnswer};
 
-static WHOLE_LOGS: [Case<'static>; 6] = [
+static WHOLE_LOGS: [Case<'static>; 8] = [
     Case {
         what: "a log without an entry",
         log: WITHOUT_ENTRIES,
@@ -45,6 +45,18 @@ static WHOLE_LOGS: [Case<'static>; 6] = [
         what: "a transaction that changes no row",
         log: NO_ROWS,
         written: EMPTY_TRANSACTION,
+        ..CASE
+    },
+    Case {
+        what: "statements, whatever the rules",
+        input: WITH_RULE,
+        written: FRAMES,
+        ..CASE
+    },
+    Case {
+        what: "a select on a table that the schema lacks",
+        input: UNBOUND,
+        written: FRAMES,
         ..CASE
     },
 ];
@@ -199,7 +211,7 @@ fn the_reason_of_an_end_is_told(rt: HostRuntime) -> Result<(), AllocError> {
     check(&rt, rt.alloc(), &FAULTS)
 }
 
-static CHANGES: [Case<'static>; 7] = [
+static CHANGES: [Case<'static>; 6] = [
     Case {
         what: "a schema text",
         schema: b"column id int",
@@ -215,14 +227,6 @@ static CHANGES: [Case<'static>; 7] = [
         ..CASE
     },
     Case {
-        what: "rows that are due",
-        log: TWO_ROWS,
-        schema: TABLE,
-        number: 6,
-        line: "bad log c/0 at 112: not built",
-        ..CASE
-    },
-    Case {
         what: "rows that are not due",
         input: BEHIND_FIRST,
         log: TWO_ROWS,
@@ -234,8 +238,6 @@ static CHANGES: [Case<'static>; 7] = [
         input: FROM_THE_END,
         log: TWO_ROWS,
         schema: TABLE,
-        number: 6,
-        line: "bad log c/0 at 112: not built",
         ..CASE
     },
     Case {
