@@ -24,7 +24,7 @@ use Rattle.vs_command.specs.Fetched.{IsFetchedOf, IsOfShard, IsPlaced, read_as}
 use Rattle.vs_command.specs.Laws.{Laws}
 use Rattle.vs_command.specs.Requests.{Asks, AsksBy, HasPatternIn, HasTaken, IsFaultOf, IsFaultOfRules, IsOfInput, IsRequestFrame, LacksPatterns, TakesOf}
 use Rattle.vs_command.specs.Stages.{HasBinding, IsBrought, IsBroughtBy, IsBroughtOf, IsBroughtOn}
-use Rattle.vs_command.specs.Streaming.{HasBadSchema, IsBeforeStream, IsOfRules, IsOfStream, IsUnboundIn, IsUnread, shard_log, shard_places}
+use Rattle.vs_command.specs.Streaming.{HasBadSchema, IsBeforeStream, IsOfRules, IsOfStream, IsUnboundFault, IsUnboundIn, IsUnread, shard_log, shard_places}
 use Rattle.vs_command.proofs.SizeLemmas.{placed_so}
 use Rattle.vs_command.proofs.CauseLemmas.{LogAsksFor-weaken}
 use Rattle.vs_command.proofs.DueLemmas.{ShardAnswer, came_told, shard_answer, unbound_asks}
@@ -350,10 +350,11 @@ due_bad_schema (Some c) s start rules line bad = ◌⊎◌.inr (go (find_shard c
     go None h = absurd h
     go (Some shard) h = ◌⊎◌.inl (line, h, refl)
 
-pub due_unbound : (told : Option ClusterBytes) (s : ShardName) (start : Start) (rules : List Meant) (index : ℕ) (why : SelectRefusal) → IfSome told (λ c. IsUnboundIn (find_shard c s) rules index why) →
-    IfSome told (λ c. IsBroughtOn (find_shard c s) s start rules (Request (status_fault.Unbound index why)) ⊎ ShardAsksFor LogAsksFor (find_shard c s) s start rules (Request (status_fault.Unbound index why)))
-due_unbound None s start rules index why not = tt
-due_unbound (Some c) s start rules index why not = ◌⊎◌.inr (unbound_asks LogAsksFor (find_shard c s) s start rules index why not)
+pub due_unbound : (told : Option ClusterBytes) (s : ShardName) (start : Start) (rules : List Meant) (fault : RequestFault) → IfSome told (λ c. IsUnboundFault (find_shard c s) rules fault) →
+    IfSome told (λ c. IsBroughtOn (find_shard c s) s start rules (Request fault) ⊎ ShardAsksFor LogAsksFor (find_shard c s) s start rules (Request fault))
+due_unbound None s start rules fault not = tt
+due_unbound (Some c) s start rules fault (index, why, is, not) =
+    ◌⊎◌.inr (subst (λ f. ShardAsksFor LogAsksFor (find_shard c s) s start rules (Request f)) (sym is) (unbound_asks LogAsksFor (find_shard c s) s start rules index why not))
 
 pub due_unknown : (told : Option ClusterBytes) (s : ShardName) (start : Start) (rules : List Meant) → IfSome told (λ c. find_shard c s ≡ None) →
     IfSome told (λ c. IsBroughtOn (find_shard c s) s start rules (UnknownShard s) ⊎ ShardAsksFor LogAsksFor (find_shard c s) s start rules (UnknownShard s))
@@ -409,10 +410,14 @@ pub due_meant : (told : Option ClusterBytes) (s : ShardName) (start : Start) (a 
     IfSome told (λ c. IsBroughtOn (find_shard c s) s start b status ⊎ ShardAsksFor LogAsksFor (find_shard c s) s start b status)
 due_meant told s start a b status same due = subst (λ m. IfSome told (λ c. IsBroughtOn (find_shard c s) s start m status ⊎ ShardAsksFor LogAsksFor (find_shard c s) s start m status)) same due
 
-pub unread_unbound : (told : Option ClusterBytes) (s : ShardName) (rules : List Meant) (index : ℕ) (why : SelectRefusal) → IfSome told (λ c. IsUnboundIn (find_shard c s) rules index why) →
-    IfSome told (λ c. IsUnread c s rules (Request (status_fault.Unbound index why)))
-unread_unbound None s rules index why not = tt
-unread_unbound (Some c) s rules index why not = (index, why, refl, not)
+pub unread_unbound : (told : Option ClusterBytes) (s : ShardName) (a b : List Meant) (fault : RequestFault) → a ≡ b → IfSome told (λ c. IsUnboundFault (find_shard c s) a fault) →
+    IfSome told (λ c. IsUnread c s b (Request fault))
+unread_unbound None s a b fault same not = tt
+unread_unbound (Some c) s a b fault same not = subst (λ m. IsUnboundFault (find_shard c s) m fault) same not
+
+-- that a rule doesn't bind is a fault of rules
+pub binding_kind : (fault : RequestFault) → IsBindingFault fault → IsOfStream (Request fault)
+binding_kind fault (index, why, is) = subst (λ f. IsOfRules f) (sym is) tt
 
 pub refused_rules : (sliced rules : List RuleText) (before now : ℕ) (refusal : FilterRefusal) (status : Status) (fault : RequestFault) → sliced ≡ rules → status ≡ refusal_status refusal → NotBuiltIs sliced before now refusal →
     status ≡ Request fault → RefusesRules rules before now fault

@@ -15,11 +15,8 @@ use Rattle.vs_outside.specs.Clusters.{Shard, ClusterBytes, find_shard}
 use Rattle.vs_schema.specs.declared.schema.Schema.{Schema}
 use Rattle.vs_schema.specs.declared.refusal.SchemaRefusal.TheVariants as refusal
 use Rattle.vs_schema.specs.Rules.{schema_of}
-use Rattle.vs_filter.specs.Causes.{UnboundIs}
 use Rattle.vs_filter.specs.Rules.{Meant, first_unbound, picked_by}
 use Rattle.vs_filter.specs.declared.bound.Picked.{Picked}
-use Rattle.vs_filter.specs.declared.filter.FilterRefusal.TheVariants as filters
-use Rattle.vs_select.specs.declared.refusal.SelectRefusal.{SelectRefusal}
 use Rattle.vs_log.specs.Events.{joined, magic}
 use Rattle.vs_log.specs.Laws.{Grows}
 use Rattle.vs_log.specs.Meaning.{log_meant}
@@ -32,9 +29,11 @@ use Rattle.vs_entries.specs.declared.took.Took.TheVariants as took
 use Rattle.vs_command.specs.declared.fetched.Fetched.{Fetched}
 use Rattle.vs_command.specs.declared.fetched.LogFault.{LogFault}
 use Rattle.vs_command.specs.declared.fetched.Placed.{Placed}
+use Rattle.vs_command.specs.Causes.{IsBindingFault}
 use Rattle.vs_command.specs.Fetched.{ArePlaced, HasGiven, HasGivenAll, IsFetchedOf, IsOfShard, IsSameLog, fault_of, read_as}
 use Rattle.vs_command.specs.Stages.{HasBinding}
-use Rattle.vs_command.specs.Streaming.{HasBadSchema, IsUnboundIn, or_none, schema_in}
+use Rattle.vs_command.specs.declared.status.RequestFault.{RequestFault}
+use Rattle.vs_command.specs.Streaming.{HasBadSchema, IsFaultOfBinding, IsUnboundFault, or_none, schema_in}
 
 -- ---- more bytes
 
@@ -142,13 +141,17 @@ bad_told (Some c) name all given text bytes line opened same bad =
     subst (λ o. HasBadSchema o line) (sym it.1) (subst (λ t. schema_of t ≡ Err (refusal.BadSchema line)) (same ∙ it.4) bad)
 
 -- a rule doesn't bind
-pub unbound_told : (told : Option ClusterBytes) (name : ShardName) (rules : List Meant) (all given : Option (List ℕ)) (text bytes : List ℕ) (index : ℕ) (why : SelectRefusal) →
+pub unbound_told : (told : Option ClusterBytes) (name : ShardName) (rules : List Meant) (all given : Option (List ℕ)) (text bytes : List ℕ) (fault : RequestFault) →
     ForSome told (λ c. (s : Shard) × (find_shard c name ≡ Some s) × (all ≡ Some s.log) × (given ≡ Some []) × (text ≡ s.schema)) →
-    bytes ≡ text → (schema : Schema) × (schema_of bytes ≡ Ok schema) × UnboundIs rules schema.tables (filters.Unbound index why) → IfSome told (λ c. IsUnboundIn (find_shard c name) rules index why)
-unbound_told None name rules all given text bytes index why opened same unbound = tt
-unbound_told (Some c) name rules all given text bytes index why opened same (schema, reads, unbound) =
+    bytes ≡ text → IsFaultOfBinding bytes rules fault → IfSome told (λ c. IsUnboundFault (find_shard c name) rules fault)
+unbound_told None name rules all given text bytes fault opened same unbound = tt
+unbound_told (Some c) name rules all given text bytes fault opened same unbound =
     let it = opened c refl in
-    subst (λ o. IsUnboundIn o rules index why) (sym it.1) (schema, subst (λ t. schema_of t ≡ Ok schema) (same ∙ it.4) reads, unbound)
+    subst (λ o. IsUnboundFault o rules fault) (sym it.1) (subst (λ t. IsFaultOfBinding t rules fault) (same ∙ it.4) unbound)
+
+-- what doesn't bind to a text is a fault of binding
+pub binding_of : (text : List ℕ) (rules : List Meant) (fault : RequestFault) → IsFaultOfBinding text rules fault → IsBindingFault fault
+binding_of text rules fault (index, why, is, not) = (index, why, is)
 
 pub fetched_of : (told : Option ClusterBytes) (name : ShardName) (rules : List Meant) (all given : Option (List ℕ)) (text read : List ℕ) (schema : Schema) (f : Fetched) (tables : List Picked) →
     ForSome told (λ c. (s : Shard) × (find_shard c name ≡ Some s) × (all ≡ Some s.log) × (given ≡ Some []) × (text ≡ s.schema)) →

@@ -207,10 +207,18 @@ abbrev pub HasBadSchema : Option Shard → ℕ → Type 0
 HasBadSchema None line = ⊥
 HasBadSchema (Some shard) line = schema_of shard.schema ≡ Err (refusal.BadSchema line)
 
--- the schema text of a shard reads, and the select of this rule is the first that doesn't bind to it, for this reason
+-- a schema text reads, and the select of this rule is the first that doesn't bind to it, for this reason
+abbrev pub IsUnboundTo : List ℕ → List Meant → ℕ → SelectRefusal → Type 0
+IsUnboundTo text rules index why = (schema : Schema) × (schema_of text ≡ Ok schema) × UnboundIs rules schema.tables (filters.Unbound index why)
+
+-- the same, as the fault of the request that it is
+abbrev pub IsFaultOfBinding : List ℕ → List Meant → RequestFault → Type 0
+IsFaultOfBinding text rules fault = (index : ℕ) × (why : SelectRefusal) × (fault ≡ Unbound index why) × IsUnboundTo text rules index why
+
+-- the same of the schema text of a shard, which is there
 abbrev pub IsUnboundIn : Option Shard → List Meant → ℕ → SelectRefusal → Type 0
 IsUnboundIn None rules index why = ⊥
-IsUnboundIn (Some shard) rules index why = (schema : Schema) × (schema_of shard.schema ≡ Ok schema) × UnboundIs rules schema.tables (filters.Unbound index why)
+IsUnboundIn (Some shard) rules index why = IsUnboundTo shard.schema rules index why
 
 -- a rule whose select doesn't bind, as the fault of the request that it is
 abbrev pub IsUnboundFault : Option Shard → List Meant → RequestFault → Type 0

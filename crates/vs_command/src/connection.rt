@@ -16,6 +16,7 @@ ghost use Rattle.vs_command.specs.Causes.{
   IsDue,
   IsOutside,
   IsOwed,
+  LogAsksFor,
   RefusesRules,
   RulesAskFor,
   ShardAsksFor,
@@ -77,7 +78,7 @@ fn stream_shard<R: Wait, O: Sink, T: Tablets>(
 ) -> Status
     requires { map meant_as filter.now.rules ≡ map meant_by asked.rules }
     ensures answers { IfSome (T.cluster tablets.old) (λ c. Writes (O.sent output.old) (O.sent output.new) (Outcome c asked.name asked.start asked.rules (Rose (T.waits tablets.old asked.name) (T.waits tablets.new asked.name)) result)) }
-    ensures due { IfSome (T.cluster tablets.old) (λ c. IsBroughtOn (find_shard c asked.name) asked.name asked.start (map meant_by asked.rules) result ⊎ ShardAsksFor (find_shard c asked.name) asked.name asked.start (map meant_by asked.rules) result) }
+    ensures due { IfSome (T.cluster tablets.old) (λ c. IsBroughtOn (find_shard c asked.name) asked.name asked.start (map meant_by asked.rules) result ⊎ ShardAsksFor LogAsksFor (find_shard c asked.name) asked.name asked.start (map meant_by asked.rules) result) }
     ensures kind { IsOfStream result }
     ensures rules { (fault : RequestFault) → result ≡ Status.Request fault → IsBindingFault fault }
     ensures patterns { T.pattern_faults tablets.new ≡ T.pattern_faults tablets.old }
@@ -101,9 +102,7 @@ fn stream_shard<R: Wait, O: Sink, T: Tablets>(
         Ok(None) => Status::UnknownShard { name },
         Err(FetchEnd::Memory) => Status::Memory,
         Err(FetchEnd::BadSchema { line }) => Status::BadSchema { name, line },
-        Err(FetchEnd::Unbound { index, why }) => {
-            Status::Request(RequestFault::Unbound { index, why })
-        }
+        Err(FetchEnd::Refused(fault)) => Status::Request(fault),
         Err(FetchEnd::OpenFault) => Status::OpenFault { name },
         Err(FetchEnd::FeedFault) => Status::FeedFault { name },
     }

@@ -21,14 +21,15 @@ ghost use Rattle.vs_outside.specs.Clusters.{Shard, find_shard};
 ghost use Rattle.vs_outside.specs.Counts.{Rose};
 ghost use Rattle.vs_outside.specs.Feeds.{GivesAllBack};
 ghost use Rattle.vs_schema.specs.Rules.{schema_of};
-ghost use Rattle.vs_filter.specs.Causes.{UnboundIs, meant_as};
+ghost use Rattle.vs_filter.specs.Causes.{meant_as};
 ghost use Rattle.vs_filter.specs.Rules.{first_unbound, picked_by};
-ghost use Rattle.vs_select.specs.declared.refusal.SelectRefusal.{SelectRefusal};
 ghost use Rattle.vs_log.specs.Laws.{HasNewGtids};
 ghost use Rattle.vs_log.specs.Meaning.{log_meant};
 ghost use Rattle.vs_log.specs.Productions.{StandsAt};
 ghost use Rattle.vs_entries.specs.Pieces.{log_fed};
 ghost use Rattle.vs_entries.specs.Rules.{rules_of};
+ghost use Rattle.vs_command.specs.declared.status.RequestFault.{RequestFault};
+ghost use Rattle.vs_command.specs.Causes.{IsBindingFault};
 ghost use Rattle.vs_command.specs.Fetched.{
   ArePlaced,
   HasGiven,
@@ -40,9 +41,10 @@ ghost use Rattle.vs_command.specs.Fetched.{
 };
 ghost use Rattle.vs_command.specs.Outside.{GoesOn, KeepsName};
 ghost use Rattle.vs_command.specs.Stages.{HasBinding};
-ghost use Rattle.vs_command.specs.Streaming.{HasBadSchema, IsUnboundIn};
+ghost use Rattle.vs_command.specs.Streaming.{HasBadSchema, IsFaultOfBinding, IsUnboundFault};
 
 use crate::fetched::{Fetched, FetchedShard, LogFault, Placed};
+use crate::status::RequestFault;
 use std::alloc::{AllocError, Global};
 use std::sync::Wait;
 use vs_base::{List, OutOfMemory, ShardName};
@@ -53,7 +55,6 @@ use vs_log::{law_distinct, law_growth};
 use vs_outside::{AskEnd, Failed, Feed, Got, Opened, Tablets};
 use vs_rows::Maps;
 use vs_schema::{Schema, SchemaRefusal};
-use vs_select::SelectRefusal;
 
 /// Why a feed was not read to its end.
 #[derive(Debug, Clone, Copy, PartialEq, Eq)]
@@ -68,8 +69,8 @@ pub enum FetchEnd {
     Memory,
     /// The schema text is refused at this line.
     BadSchema { line: usize },
-    /// The select of this rule doesn't stand on its table.
-    Unbound { index: usize, why: SelectRefusal },
+    /// The select of a rule doesn't stand on its table.
+    Refused(RequestFault),
     /// The log could not be opened.
     OpenFault,
     /// A read of the log failed.
@@ -205,7 +206,7 @@ fn read_schema(alloc: Global, filter: &Filter, text: &[u8]) -> Result<Binding, F
     ensures binds { IfOk result (λ b. first_unbound (map meant_as filter.now.rules) b.schema.tables ≡ None) }
     ensures picks { IfOk result (λ b. b.bound.tables ≡ picked_by (map meant_as filter.now.rules) b.schema.tables) }
     ensures bad { (line : ℕ) → result ≡ Err (FetchEnd.BadSchema line) → schema_of text.now ≡ Err (SchemaRefusal.BadSchema line) }
-    ensures unbound { (index : ℕ) (why : SelectRefusal) → result ≡ Err (FetchEnd.Unbound index why) → (schema : Schema) × (schema_of text.now ≡ Ok schema) × UnboundIs (map meant_as filter.now.rules) schema.tables (FilterRefusal.Unbound index why) }
+    ensures refused { (fault : RequestFault) → result ≡ Err (FetchEnd.Refused fault) → IsFaultOfBinding text.now (map meant_as filter.now.rules) fault }
     ensures no_open { result ≡ Err FetchEnd.OpenFault → ⊥ }
     ensures no_feed { result ≡ Err FetchEnd.FeedFault → ⊥ }
 {
@@ -216,7 +217,9 @@ fn read_schema(alloc: Global, filter: &Filter, text: &[u8]) -> Result<Binding, F
     };
     match filter.bind(alloc, &schema) {
         Ok(bound) => Ok(Binding { schema, bound }),
-        Err(FilterRefusal::Unbound { index, why }) => Err(FetchEnd::Unbound { index, why }),
+        Err(FilterRefusal::Unbound { index, why }) => {
+            Err(FetchEnd::Refused(RequestFault::Unbound { index, why }))
+        }
         Err(_) => Err(FetchEnd::Memory),
     }
 }
@@ -235,7 +238,8 @@ pub fn fetch_log<R: Wait, T: Tablets>(
     ensures marked { IfOk result (λ o. IfSome o (λ f. f.log.mark ≢ None → Rose (T.waits tablets.old name.now) (T.waits tablets.new name.now))) }
     ensures cluster { T.cluster tablets.new ≡ T.cluster tablets.old }
     ensures bad_schema { (line : ℕ) → result ≡ Err (FetchEnd.BadSchema line) → IfSome (T.cluster tablets.old) (λ c. HasBadSchema (find_shard c name.now) line) }
-    ensures unbound { (index : ℕ) (why : SelectRefusal) → result ≡ Err (FetchEnd.Unbound index why) → IfSome (T.cluster tablets.old) (λ c. IsUnboundIn (find_shard c name.now) (map meant_as filter.now.rules) index why) }
+    ensures binding { (fault : RequestFault) → result ≡ Err (FetchEnd.Refused fault) → IsBindingFault fault }
+    ensures refused { (fault : RequestFault) → result ≡ Err (FetchEnd.Refused fault) → IfSome (T.cluster tablets.old) (λ c. IsUnboundFault (find_shard c name.now) (map meant_as filter.now.rules) fault) }
     ensures open_failed { result ≡ Err FetchEnd.OpenFault → Rose (T.open_faults tablets.old name.now) (T.open_faults tablets.new name.now) }
     ensures feed_opened { result ≡ Err FetchEnd.FeedFault → IfSome (T.cluster tablets.old) (λ c. HasBinding (find_shard c name.now) (map meant_as filter.now.rules)) }
     ensures feed_failed { result ≡ Err FetchEnd.FeedFault → Rose (T.faults tablets.old name.now) (T.faults tablets.new name.now) }

@@ -1,4 +1,4 @@
-ghost use Rattle.std.specs.Prelude.{◌≡◌, ◌≤◌, ◌<◌, ℕ, IfOk, OnOk, Err, length};
+ghost use Rattle.std.specs.Prelude.{◌≡◌, ◌≤◌, ◌<◌, ◌++◌, ℕ, IfOk, OnOk, Err, length};
 ghost use Rattle.vs_gtid.specs.Joins.{added};
 ghost use Rattle.vs_log.specs.Laws.{FitAlong};
 ghost use Rattle.vs_outside.specs.Counts.{Rose};
@@ -109,6 +109,21 @@ fn body_of(
     }
 }
 
+/// Appends the frame of an entry's body, with the vector behind the entry.
+fn put_frame_of(
+    alloc: Global,
+    out: &mut Vec<u8>,
+    name: &ShardName,
+    entry: &Entry,
+    position: &GtidSet,
+    body: &Body,
+) -> Result<(), OutOfMemory>
+    ensures { OnOk result (out.new.items ≡ out.old.items ++ frame_with (head_of name.now entry.now.time) (vector_at name.now position.now) body.now.body) }
+{
+    let vgtid = vgtid_of(alloc, name, position)?;
+    put_frame_with(alloc, out, name, entry.time, &vgtid, body)
+}
+
 /// Sends the frame of an entry's body, and moves the position. The frame is made in a buffer that is
 /// used again.
 fn send_body<O: Sink>(
@@ -133,11 +148,8 @@ fn send_body<O: Sink>(
         Err(GtidRefusal::TooManyIntervals) => return Err(SendEnd::PositionTooLarge),
         Err(_) => return Err(SendEnd::Memory),
     }
-    let Ok(vgtid) = vgtid_of(alloc, name, position) else {
-        return Err(SendEnd::Memory);
-    };
     frame.clear();
-    match put_frame_with(alloc, frame, name, entry.time, &vgtid, body) {
+    match put_frame_of(alloc, frame, name, entry, position, body) {
         Ok(()) => {}
         Err(_) => return Err(SendEnd::Memory),
     }

@@ -44,6 +44,11 @@ const DROP_S: &[u8] =
     b"e\0\0\0\x02\x01\0\0\0\x31\0\0\0\0\0\0\0\0\0\0\0\0\0\0\0\0\0\x04\0\0\0\0vt_c\0drop table \
     s";
 
+/// The front of a statement whose text is `drop table ` and 8,388,608 bytes more.
+const LARGE_HEAD: &[u8] =
+    b"e\0\0\0\x02\x01\0\0\0\x30\0\x80\0\0\0\0\0\0\0\0\0\0\0\0\0\0\0\x04\0\0\0\0vt_c\0drop table \
+    ";
+
 /// The GTID event of the number 5,000, at the time 100.
 const FAR_GTID: &[u8] =
     b"d\0\0\0!\x01\0\0\0,\0\0\0\0\0\0\0\0\0\0\0\0\0\0\0\0\0\0\0\0\0\0\0\0\0\x01\x88\x13\0\0\0\
@@ -93,6 +98,10 @@ pub const WITHOUT_ENTRIES: &[&[u8]] = &[FORMAT, EMPTY_BASE];
 /// The statements `drop table t` (time 100) and `drop table s` (time 101) in `vt_c`, of the GTIDs
 /// 1 and 2.
 pub const LOG: &[&[u8]] = &[FORMAT, EMPTY_BASE, FIRST_GTID, DROP_T, SECOND_GTID, DROP_S];
+
+/// The first statement, and the front of a second one that is too large to be sent.
+pub const BEFORE_LARGE: [&[u8]; 6] =
+    [FORMAT, EMPTY_BASE, FIRST_GTID, DROP_T, SECOND_GTID, LARGE_HEAD];
 
 /// It without its second statement.
 pub const FIRST_ALONE: &[&[u8]] = &[FORMAT, EMPTY_BASE, FIRST_GTID, DROP_T];

@@ -2,7 +2,7 @@
 
 use crate::case::{CASE, Case, check};
 use crate::logs::{
-    BAD_LENGTH, BESIDE_OTHERS, CHECKSUMMED, EMPTY_TRANSACTION, FAR, FIRST_ALONE, FIRST_FRAME,
+    BAD_LENGTH, BEFORE_LARGE, BESIDE_OTHERS, CHECKSUMMED, EMPTY_TRANSACTION, FAR, FIRST_ALONE, FIRST_FRAME,
     FRAMES, NO_ROWS, PURGED, PURGED_UNFLAGGED, SECOND_FRAME, TABLE, TWO_ROWS, UNMAPPED_ROWS,
     WITHOUT_ENTRIES,
 };
@@ -262,4 +262,32 @@ static CHANGES: [Case<'static>; 6] = [
 #[test]
 fn rows_are_read_under_the_schema_text(rt: HostRuntime) -> Result<(), AllocError> {
     check(&rt, rt.alloc(), &CHANGES)
+}
+
+/// How many bytes a message may have.
+const MOST: usize = 8_388_608;
+
+#[test]
+fn a_statement_that_is_too_large_is_told_at_its_place(rt: HostRuntime) -> Result<(), AllocError> {
+    let alloc = rt.alloc();
+    let text = vec![in alloc; b'a'; MOST]?;
+    let [format, base, first, drop, second, head] = BEFORE_LARGE;
+    let log = [format, base, first, drop, second, head, text.as_slice()];
+    let due = Case {
+        what: "too large",
+        log: &log,
+        number: 6,
+        line: "bad log c/0 at 205: too large",
+        written: FIRST_FRAME,
+        ..CASE
+    };
+    let before = Case {
+        what: "such a one before the end",
+        input: FROM_THE_END,
+        number: 0,
+        line: "",
+        written: b"",
+        ..due
+    };
+    check(&rt, alloc, &[due, before])
 }

@@ -5,13 +5,11 @@ use Rattle.vs_filter.specs.Causes.{meant_as}
 use Rattle.vs_filter.specs.Rules.{meant_by}
 use Rattle.vs_outside.specs.Clusters.{find_shard}
 use Rattle.vs_command.specs.Stages.{HasBinding}
-use Rattle.vs_command.specs.Streaming.{IsUnboundIn}
-use Rattle.vs_command.specs.declared.status.RequestFault.TheVariants.{Unbound}
 use Rattle.vs_command.specs.declared.status.Status.TheVariants.{BadSchema, Request}
 use Rattle.vs_command.specs.Fetched.{IsPlaced, read_as}
 use Rattle.vs_command.specs.Streaming.{IsStreamedFrom}
 use Rattle.vs_command.proofs.AnswerLemmas.{Writes-streamed, Writes-unread, told_always, told_so}
-use Rattle.vs_command.proofs.AskedLemmas.{due_bad_schema, due_meant, due_streamed, due_unbound, due_unknown, unread_unbound}
+use Rattle.vs_command.proofs.AskedLemmas.{binding_kind, due_bad_schema, due_meant, due_streamed, due_unbound, due_unknown, unread_unbound}
 use Rattle.vs_command.proofs.connection.stream_shard.Goals as goal
 
 pub returns-in-Ok-Some-clause-answers : goal.returns-in-Ok-Some-clause-answers
@@ -78,15 +76,18 @@ returns-in-Ok-Some-clause-sent g c =
     Writes-weaken (λ w. IsStreamedFrom (IsPlaced c.in-Ok-Some.shard.log.entries) c.in-Ok-Some.shard.bound.tables c.args.asked.name (read_as c.in-Ok-Some.shard.log) c.args.asked.start (c.in-Ok-Some.shard.log.mark ≡ None) c.stream_log.result w)
     (λ w. Unit {0}) (g.O.Sink.sent c.args.output.now) (g.O.Sink.sent c.stream_log.new.output) (λ w streamed. tt) c.stream_log.ensures.wrote
 
-pub returns-in-Err-Unbound-clause-answers : goal.returns-in-Err-Unbound-clause-answers
-returns-in-Err-Unbound-clause-answers g c =
-    let not = subst (λ m. IfSome (g.T.Tablets.cluster c.args.tablets.now) (λ k. IsUnboundIn (find_shard k c.args.asked.name) m c.in-Err-Unbound.index c.in-Err-Unbound.why)) c.requires
-        (c.in-Err-Unbound.ensures.unbound c.in-Err-Unbound.index c.in-Err-Unbound.why (ap (λ e. Err e) c.in-Err-Unbound.field-0-is)) in
-    rw (← c.in-Err-Unbound.why-is) (Writes-unread (g.T.Tablets.cluster c.args.tablets.now) c.args.asked.name c.args.asked.start c.args.asked.rules _ (Request (Unbound c.in-Err-Unbound.index c.in-Err-Unbound.why)) _
-    (unread_unbound (g.T.Tablets.cluster c.args.tablets.now) c.args.asked.name (map meant_by c.args.asked.rules) c.in-Err-Unbound.index c.in-Err-Unbound.why not))
+pub returns-in-Err-Refused-clause-answers : goal.returns-in-Err-Refused-clause-answers
+returns-in-Err-Refused-clause-answers g c =
+    let not = c.in-Err-Refused.ensures.refused c.in-Err-Refused.fault (ap (λ e. Err e) c.in-Err-Refused.field-0-is) in
+    rw c.in-Err-Refused.fault-is (Writes-unread (g.T.Tablets.cluster c.args.tablets.now) c.args.asked.name c.args.asked.start c.args.asked.rules _ (Request c.in-Err-Refused.fault) _
+    (unread_unbound (g.T.Tablets.cluster c.args.tablets.now) c.args.asked.name (map meant_as c.args.filter.now.rules) (map meant_by c.args.asked.rules) c.in-Err-Refused.fault c.requires not))
 
-pub returns-in-Err-Unbound-clause-due : goal.returns-in-Err-Unbound-clause-due
-returns-in-Err-Unbound-clause-due g c =
-    let not = subst (λ m. IfSome (g.T.Tablets.cluster c.args.tablets.now) (λ k. IsUnboundIn (find_shard k c.args.asked.name) m c.in-Err-Unbound.index c.in-Err-Unbound.why)) c.requires
-        (c.in-Err-Unbound.ensures.unbound c.in-Err-Unbound.index c.in-Err-Unbound.why (ap (λ e. Err e) c.in-Err-Unbound.field-0-is)) in
-    rw (← c.in-Err-Unbound.why-is) (due_unbound (g.T.Tablets.cluster c.args.tablets.now) c.args.asked.name c.args.asked.start (map meant_by c.args.asked.rules) c.in-Err-Unbound.index c.in-Err-Unbound.why not)
+pub returns-in-Err-Refused-clause-due : goal.returns-in-Err-Refused-clause-due
+returns-in-Err-Refused-clause-due g c =
+    let not = c.in-Err-Refused.ensures.refused c.in-Err-Refused.fault (ap (λ e. Err e) c.in-Err-Refused.field-0-is) in
+    rw c.in-Err-Refused.fault-is (due_meant (g.T.Tablets.cluster c.args.tablets.now) c.args.asked.name c.args.asked.start (map meant_as c.args.filter.now.rules) (map meant_by c.args.asked.rules) (Request c.in-Err-Refused.fault) c.requires
+    (due_unbound (g.T.Tablets.cluster c.args.tablets.now) c.args.asked.name c.args.asked.start (map meant_as c.args.filter.now.rules) c.in-Err-Refused.fault not))
+
+pub returns-in-Err-Refused-clause-kind : goal.returns-in-Err-Refused-clause-kind
+returns-in-Err-Refused-clause-kind g c =
+    rw c.in-Err-Refused.fault-is (binding_kind c.in-Err-Refused.fault (c.in-Err-Refused.ensures.binding c.in-Err-Refused.fault (ap (λ e. Err e) c.in-Err-Refused.field-0-is)))
