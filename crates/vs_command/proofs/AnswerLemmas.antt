@@ -1,8 +1,12 @@
 -- What was written of a shard's log answers the request that asks for the shard.
-use Rattle.std.proofs.Common.{◌≡◌, ◌≢◌, ℕ, Bool, true, false, List, [], ◌∷◌, ◌++◌, Option, Some, None, if◌then◌else◌, refl, sym, ap, subst, ◌∙◌}
+use Rattle.std.proofs.Common.{◌≡◌, ◌≢◌, ℕ, Bool, true, false, List, [], ◌∷◌, ◌++◌, map, Option, Some, None, Ok, if◌then◌else◌, refl, sym, ap, subst, ◌∙◌}
 use Rattle.std.specs.Prelude.{◌⊎◌, IfSome}
 use Rattle.vs_base.specs.declared.Gtid.{Gtid}
 use Rattle.vs_base.specs.declared.ShardName.{ShardName}
+use Rattle.vs_base.specs.declared.rule_text.RuleText.{RuleText}
+use Rattle.vs_filter.specs.Rules.{Meant, first_fault, meant_by, picked_by}
+use Rattle.vs_filter.specs.Picks.{bound_in}
+use Rattle.vs_filter.specs.declared.bound.Picked.{Picked}
 use Rattle.vs_base.specs.declared.Why.{Why}
 use Rattle.vs_base.specs.Names.{same_name}
 use Rattle.vs_base.proofs.NameLemmas.{same_name-is}
@@ -24,21 +28,27 @@ use Rattle.vs_command.specs.declared.status.Status.{Status}
 use Rattle.vs_command.specs.declared.status.Status.TheVariants as statuses
 use Rattle.vs_command.specs.declared.start.Start.{Start}
 use Rattle.vs_command.specs.declared.start.Start.TheVariants.{At, Current}
-use Rattle.vs_command.specs.Sending.{IsNextTooLarge, vector_at, position_after, entry_frames}
-use Rattle.vs_command.specs.Built.{AreBuilt, IsNextUnbuilt}
+use Rattle.vs_command.specs.Sending.{IsNextTooLarge, entries_bytes, vector_at, position_after, entry_frames}
+use Rattle.vs_command.specs.Sizes.{IsNextOversized}
+use Rattle.vs_render.specs.Bodies.{columns_in}
+use Rattle.vs_render.specs.Frames.{frames_bytes}
+use Rattle.vs_schema.specs.declared.schema.Schema.{Schema}
+use Rattle.vs_schema.specs.Rules.{schema_of}
 use Rattle.vs_command.specs.Fetched.{IsFetchedOf, IsOfShard, IsPlaced, read_as}
 use Rattle.vs_entries.specs.Laws.{AreNoJournals}
 use Rattle.vs_command.specs.Laws.{Laws}
 use Rattle.vs_log.specs.Laws.{AlwaysNewGtids}
 use Rattle.vs_rows.specs.Tables.{Tables}
-use Rattle.vs_command.specs.Requests.{Asks}
+use Rattle.vs_command.specs.Requests.{AsksBy}
+use Rattle.vs_command.specs.Streaming.Filtered.{refused, taken}
 use Rattle.vs_command.specs.Streaming.Headline.{asked, silent}
 use Rattle.vs_command.specs.Streaming.Outcome.{unread, answers}
-use Rattle.vs_command.specs.Streaming.{Answers, Headline, HasBadLogCause, HasCause, HasFault, HasLogCause, HasSentAll, IsStart, IsStreamed, IsStreamedFrom, IsUnread, Outcome, cluster_meant, places_in, shard_log, shard_places, shard_rules, schema_in, start_at, takes_all}
-use Rattle.vs_command.proofs.BuiltLemmas.{placed_so}
-use Rattle.vs_command.proofs.SendLemmas.{spelled_built}
+use Rattle.vs_command.specs.Streaming.{Answers, Filtered, Headline, HasBadLogCause, HasCause, HasFault, HasLogCause, HasSentAll, IsBeforeStream, IsStart, IsStreamed, IsStreamedFrom, IsUnread, Outcome, cluster_meant, filter_of, picks_in, places_in, shard_log, shard_places, shard_rules, schema_in, start_at, tables_in, telling_of}
+use Rattle.vs_command.proofs.FetchLemmas.{schema_read}
+use Rattle.vs_command.proofs.SizeLemmas.{in_front, placed_so}
 use Rattle.vs_command.proofs.StreamLemmas.{IsStreamedFrom-weaken}
-use Rattle.vs_command.proofs.LegalLemmas.{after_all, steps_sent, copies_sent, last_sent, due_all, stop_none}
+use Rattle.vs_command.proofs.LegalLemmas.{PicksFrom, after_all, after_no_journals, copies_sent, due_all, frames_spelled, last_sent, steps_sent, stop_none}
+use Rattle.vs_entries.specs.Rules.{IsNoJournal}
 
 -- the log of a shard of the cluster is what its bytes mean
 log_of-meant : (cluster : ClusterBytes) (s : ShardName) (shard : Shard) → find_shard cluster s ≡ Some shard → log_of (cluster_meant cluster) s ≡ shard_log s shard.schema shard.log
@@ -95,63 +105,62 @@ settled_at laws cluster s distinct plain p sent rest are none t place h =
     laws.stop s log p q sent rest (distinct s) (due_all s log p plain ∙ are) (after_all p sent) ∙ stop_none s log p plain in
     (q, it.1, subst (λ u. due u (log_of cluster u) q ≡ []) it.0 none_due, subst (λ u. stop u (log_of cluster u) q ≡ None) it.0 none_stops)
 
-sent_all : Laws → (cluster : Cluster) (s : ShardName) → LogsAreDistinct cluster → AreNoJournals (log_of cluster s).entries → (p : Position) (sent rest : List Entry) →
-    after (log_of cluster s) p ≡ sent ++ rest → rest ≡ [] → IsSubset (log_of cluster s).base p → HasSentAll cluster s p (last_vector (vector_at s p) (entry_frames s p sent))
-sent_all laws cluster s distinct plain p sent rest are none base = record {
+sent_all : Laws → (tables : List Picked) (cluster : Cluster) (s : ShardName) → LogsAreDistinct cluster → AreNoJournals (log_of cluster s).entries → (p : Position) (sent rest : List Entry) →
+    after (log_of cluster s) p ≡ sent ++ rest → rest ≡ [] → IsSubset (log_of cluster s).base p → HasSentAll cluster s p (last_vector (vector_at s p) (entry_frames tables s p sent))
+sent_all laws tables cluster s distinct plain p sent rest are none base = record {
   base = base;
-  settled = subst (λ v. IsSettled cluster v) (sym (last_sent s p sent)) (settled_at laws cluster s distinct plain p sent rest are none);
+  settled = subst (λ v. IsSettled cluster v) (sym (last_sent tables s p sent)) (settled_at laws cluster s distinct plain p sent rest are none);
 }
 
 -- what is wrong with a log
-bad_log_caused : Laws → (stands : Gtid → ℕ → Type 0) (cluster : Cluster) (s : ShardName) (start : Start) → LogsAreDistinct cluster → AreNoJournals (log_of cluster s).entries →
-    (p : Position) (sent rest : List Entry) (offset : ℕ) (why : Why) → after (log_of cluster s) p ≡ sent ++ rest → HasFault stands (log_of cluster s) start p sent rest offset why →
-    HasBadLogCause stands cluster s start p (entry_frames s p sent) offset why
-bad_log_caused laws stands cluster s start distinct plain p sent rest offset why are (◌⊎◌.inl (own, none, base)) =
-    ◌⊎◌.inl (own, sent_all laws cluster s distinct plain p sent rest are none base)
-bad_log_caused laws stands cluster s start distinct plain p sent rest offset why are (◌⊎◌.inr (not, ◌⊎◌.inl (next, base))) = ◌⊎◌.inr (
-  not,
-  ◌⊎◌.inl (record {
+bad_log_caused : Laws → (stands : Gtid → ℕ → Type 0) (tables : List Picked) (cluster : Cluster) (s : ShardName) → LogsAreDistinct cluster → AreNoJournals (log_of cluster s).entries →
+    (p : Position) (sent rest : List Entry) (offset : ℕ) (why : Why) → after (log_of cluster s) p ≡ sent ++ rest → HasFault stands tables s (log_of cluster s) p rest offset why →
+    HasBadLogCause stands tables cluster s p (entry_frames tables s p sent) offset why
+bad_log_caused laws stands tables cluster s distinct plain p sent rest offset why are (◌⊎◌.inl (own, none, base)) =
+    ◌⊎◌.inl (own, sent_all laws tables cluster s distinct plain p sent rest are none base)
+bad_log_caused laws stands tables cluster s distinct plain p sent rest offset why are (◌⊎◌.inr (bytes, is, next, base)) = ◌⊎◌.inr (
+  bytes,
+  is,
+  record {
     base = base;
     q = position_after p sent;
-    is = last_sent s p sent;
-    unbuilt = subst (λ es. IsNextUnbuilt stands es offset) (sym (due_behind laws cluster s distinct plain p sent rest are)) next;
-  }),
+    is = last_sent tables s p sent;
+    oversized = subst (λ es. IsNextOversized stands tables s es offset bytes) (sym (due_behind laws cluster s distinct plain p sent rest are)) next;
+  },
 )
-bad_log_caused laws stands cluster s start distinct plain p sent rest offset why are (◌⊎◌.inr (not, ◌⊎◌.inr (unbuilt, none))) =
-    ◌⊎◌.inr (not, ◌⊎◌.inr (unbuilt, ap (λ es. entry_frames s p es) none))
 
 -- what an answer says of a log, it says of the shard and its vector
-caused : Laws → (stands : Gtid → ℕ → Type 0) (cluster : Cluster) (s : ShardName) (start : Start) → LogsAreDistinct cluster → AreNoJournals (log_of cluster s).entries →
-    (p : Position) (sent rest : List Entry) (status : Status) → after (log_of cluster s) p ≡ sent ++ rest → HasLogCause stands s (log_of cluster s) start p sent rest status →
-    HasCause stands cluster s start p (entry_frames s p sent) status
-caused laws stands cluster s start distinct plain p sent rest statuses.Done are cause = (sent_all laws cluster s distinct plain p sent rest are cause.0 cause.1, cause.2)
-caused laws stands cluster s start distinct plain p sent rest (statuses.BadLog name offset why) are cause =
-    (cause.0, bad_log_caused laws stands cluster s start distinct plain p sent rest offset why are cause.1)
-caused laws stands cluster s start distinct plain p sent rest (statuses.Purged name missing) are cause = (cause.0, cause.1, ap (λ es. entry_frames s p es) cause.2)
-caused laws stands cluster s start distinct plain p sent rest (statuses.PositionTooLarge name) are cause = (
+caused : Laws → (stands : Gtid → ℕ → Type 0) (tables : List Picked) (cluster : Cluster) (s : ShardName) → LogsAreDistinct cluster → AreNoJournals (log_of cluster s).entries →
+    (p : Position) (sent rest : List Entry) (status : Status) → after (log_of cluster s) p ≡ sent ++ rest → HasLogCause stands tables s (log_of cluster s) p sent rest status →
+    HasCause stands tables cluster s p (entry_frames tables s p sent) status
+caused laws stands tables cluster s distinct plain p sent rest statuses.Done are cause = (sent_all laws tables cluster s distinct plain p sent rest are cause.0 cause.1, cause.2)
+caused laws stands tables cluster s distinct plain p sent rest (statuses.BadLog name offset why) are cause =
+    (cause.0, bad_log_caused laws stands tables cluster s distinct plain p sent rest offset why are cause.1)
+caused laws stands tables cluster s distinct plain p sent rest (statuses.Purged name missing) are cause = (cause.0, cause.1, ap (λ es. entry_frames tables s p es) cause.2)
+caused laws stands tables cluster s distinct plain p sent rest (statuses.PositionTooLarge name) are cause = (
   cause.0,
   record {
     base = cause.2;
     q = position_after p sent;
-    is = last_sent s p sent;
+    is = last_sent tables s p sent;
     large = subst (λ es. IsNextTooLarge (position_after p sent) es) (sym (due_behind laws cluster s distinct plain p sent rest are)) cause.1;
   },
 )
-caused laws stands cluster s start distinct plain p sent rest statuses.LinkFault are cause = cause
-caused laws stands cluster s start distinct plain p sent rest statuses.Memory are cause = tt
-caused laws stands cluster s start distinct plain p sent rest statuses.Usage are cause = absurd cause
-caused laws stands cluster s start distinct plain p sent rest (statuses.BadFrame number frame_why) are cause = absurd cause
-caused laws stands cluster s start distinct plain p sent rest (statuses.Request fault) are cause = absurd cause
-caused laws stands cluster s start distinct plain p sent rest (statuses.UnknownShard name) are cause = absurd cause
-caused laws stands cluster s start distinct plain p sent rest (statuses.FeedFault name) are cause = absurd cause
-caused laws stands cluster s start distinct plain p sent rest statuses.InputFault are cause = absurd cause
-caused laws stands cluster s start distinct plain p sent rest (statuses.OpenFault name) are cause = absurd cause
-caused laws stands cluster s start distinct plain p sent rest (statuses.BadSchema name line) are cause = absurd cause
+caused laws stands tables cluster s distinct plain p sent rest statuses.LinkFault are cause = cause
+caused laws stands tables cluster s distinct plain p sent rest statuses.Memory are cause = tt
+caused laws stands tables cluster s distinct plain p sent rest statuses.Usage are cause = absurd cause
+caused laws stands tables cluster s distinct plain p sent rest (statuses.BadFrame number frame_why) are cause = absurd cause
+caused laws stands tables cluster s distinct plain p sent rest (statuses.Request fault) are cause = absurd cause
+caused laws stands tables cluster s distinct plain p sent rest (statuses.UnknownShard name) are cause = absurd cause
+caused laws stands tables cluster s distinct plain p sent rest (statuses.FeedFault name) are cause = absurd cause
+caused laws stands tables cluster s distinct plain p sent rest statuses.InputFault are cause = absurd cause
+caused laws stands tables cluster s distinct plain p sent rest (statuses.OpenFault name) are cause = absurd cause
+caused laws stands tables cluster s distinct plain p sent rest (statuses.BadSchema name line) are cause = absurd cause
 
-Answers-streamed : Laws → (cluster : ClusterBytes) (s : ShardName) (start : Start) (whole waited : Type 0) (shard : Shard) (status : Status) (written : List ℕ) (p : Position) →
-    ((waited → ⊥) → whole) → find_shard cluster s ≡ Some shard → IsStart (shard_log s shard.schema shard.log) start whole p → IsCanonical p →
-    IsStreamed (shard_places s shard.schema shard.log) s (shard_log s shard.schema shard.log) start p status written → Answers cluster s start waited status written
-Answers-streamed laws cluster s start whole waited shard status written p unwaited found starts canonical streamed =
+Answers-streamed : Laws → (cluster : ClusterBytes) (s : ShardName) (start : Start) (rules : List RuleText) (whole waited : Type 0) (shard : Shard) (tables : List Picked) (status : Status) (written : List ℕ) (p : Position) →
+    ((waited → ⊥) → whole) → find_shard cluster s ≡ Some shard → tables ≡ picks_in rules (Some shard) → IsStart (shard_log s shard.schema shard.log) start whole p → IsCanonical p →
+    IsStreamed (shard_places s shard.schema shard.log) tables s (shard_log s shard.schema shard.log) p status written → Answers cluster s start rules waited status written
+Answers-streamed laws cluster s start rules whole waited shard tables status written p unwaited found picks starts canonical streamed =
     let meant : log_of (cluster_meant cluster) s ≡ shard_log s shard.schema shard.log = log_of-meant cluster s shard found in
     let distinct : LogsAreDistinct (cluster_meant cluster) = distinct_meant laws.new_gtids cluster in
     let log : Log = log_of (cluster_meant cluster) s in
@@ -159,62 +168,76 @@ Answers-streamed laws cluster s start whole waited shard status written p unwait
     let stands : Gtid → ℕ → Type 0 = shard_places s shard.schema shard.log in
     let here : IsStart log start whole p = subst (λ (l : Log). IsStart l start whole p) (sym meant) starts in
     let are : after log p ≡ streamed.sent ++ streamed.rest = ap (λ (l : Log). after l p) meant ∙ streamed.are in
-    let sent : AreBuilt streamed.sent = spelled_built s p streamed.sent streamed.bytes streamed.spelled in
+    let sent : AreNoJournals streamed.sent = in_front (λ (e : Entry). IsNoJournal e.work) streamed.sent streamed.rest (subst (λ es. AreNoJournals es) are (after_no_journals log p plain)) in
     let base : (streamed.sent ≡ []) ⊎ IsSubset log.base p = subst (λ (l : Log). (streamed.sent ≡ []) ⊎ IsSubset l.base p) (sym meant) streamed.base in
-    let frames : List Frame = entry_frames s p streamed.sent in
+    let frames : List Frame = entry_frames tables s p streamed.sent in
+    let picked : tables ≡ picks_in rules (find_shard cluster s) = picks ∙ ap (λ o. picks_in rules o) (sym found) in
+    let from : PicksFrom (filter_of rules cluster) s tables = (tables_in (find_shard cluster s), ap (λ ts. bound_in ts (tables_in (find_shard cluster s))) (sym picked)) in
+    let spelled : frames_bytes (telling_of rules cluster) frames ≡ entries_bytes tables s p streamed.sent =
+    frames_spelled laws.bodies (telling_of rules cluster) tables s (ap (λ ts. columns_in ts) (sym picked)) p streamed.sent in
     record {
       known = λ absent. let clash : ◌≡◌ {A = Option Shard} (Some shard) None = sym found ∙ absent in cc;
       p = p;
       frames = frames;
       first = first_of (cluster_meant cluster) s start whole p here canonical;
       at_end = λ current never. starts_at_end log start whole p here current (unwaited never);
-      legal = laws.steps (cluster_meant cluster) takes_all (vector_at s p) frames distinct (copies_sent s p streamed.sent)
-          (steps_sent laws.transactions laws.due (cluster_meant cluster) s distinct p streamed.sent streamed.rest sent (due_all s log p plain ∙ are) base streamed.canonical);
-      bytes = streamed.bytes;
-      spelled = streamed.spelled;
+      legal = laws.steps (cluster_meant cluster) (filter_of rules cluster) (vector_at s p) frames distinct (copies_sent tables s p streamed.sent)
+          (steps_sent laws.transactions laws.due (cluster_meant cluster) (filter_of rules cluster) tables s from distinct p streamed.sent streamed.rest sent (due_all s log p plain ∙ are) base streamed.canonical);
+      bytes = entries_bytes tables s p streamed.sent;
+      spelled = sym spelled;
       prefix = streamed.prefix;
       whole = streamed.whole;
-      cause = subst (λ o. HasCause (places_in o s) (cluster_meant cluster) s start p frames status) (sym found)
-          (caused laws stands (cluster_meant cluster) s start distinct plain p streamed.sent streamed.rest status are
-          (subst (λ (l : Log). HasLogCause stands s l start p streamed.sent streamed.rest status) (sym meant) streamed.cause));
+      cause = subst (λ ts. HasCause (places_in (find_shard cluster s) s) ts (cluster_meant cluster) s p frames status) picked
+          (subst (λ o. HasCause (places_in o s) tables (cluster_meant cluster) s p frames status) (sym found)
+          (caused laws stands tables (cluster_meant cluster) s distinct plain p streamed.sent streamed.rest status are
+          (subst (λ (l : Log). HasLogCause stands tables s l p streamed.sent streamed.rest status) (sym meant) streamed.cause)));
     }
 
-outcome_of : Laws → (cluster : ClusterBytes) (s : ShardName) (start : Start) (whole waited : Type 0) (shard : Shard) (status : Status) (written : List ℕ) →
-    ((waited → ⊥) → whole) → find_shard cluster s ≡ Some shard → IsStreamedFrom (shard_places s shard.schema shard.log) s (shard_log s shard.schema shard.log) start whole status written → Outcome cluster s start waited status written
-outcome_of laws cluster s start whole waited shard status written unwaited found (◌⊎◌.inl none) = unread none.1 (subst (λ x. IsUnread cluster s x) (sym none.0) tt)
-outcome_of laws cluster s start whole waited shard status written unwaited found (◌⊎◌.inr from) =
-    answers (Answers-streamed laws cluster s start whole waited shard status written from.0 unwaited found from.1 from.2 from.3)
+outcome_of : Laws → (cluster : ClusterBytes) (s : ShardName) (start : Start) (rules : List RuleText) (whole waited : Type 0) (shard : Shard) (tables : List Picked) (status : Status) (written : List ℕ) →
+    ((waited → ⊥) → whole) → find_shard cluster s ≡ Some shard → tables ≡ picks_in rules (Some shard) →
+    IsStreamedFrom (shard_places s shard.schema shard.log) tables s (shard_log s shard.schema shard.log) start whole status written → Outcome cluster s start rules waited status written
+outcome_of laws cluster s start rules whole waited shard tables status written unwaited found picks (◌⊎◌.inl none) = unread none.1 (subst (λ x. IsUnread cluster s (map meant_by rules) x) (sym none.0) tt)
+outcome_of laws cluster s start rules whole waited shard tables status written unwaited found picks (◌⊎◌.inr from) =
+    answers (Answers-streamed laws cluster s start rules whole waited shard tables status written from.0 unwaited found picks from.1 from.2 from.3)
 
 never_marked : (mark : Option ℕ) (waited : Type 0) → (mark ≢ None → waited) → (waited → ⊥) → mark ≡ None
 never_marked None waited marked never = refl
 never_marked (Some n) waited marked never = absurd (never (marked (λ h. cc)))
 
 -- where the cluster is told, and the log that was fetched is the shard's
-streamed_of : Laws → (cluster : ClusterBytes) (s : ShardName) (start : Start) (whole waited : Type 0) (status : Status) (text bytes : List ℕ) (w : List ℕ) → ((waited → ⊥) → whole) →
-    IsStreamedFrom (shard_places s text bytes) s (shard_log s text bytes) start whole status w → (shard : Option Shard) → find_shard cluster s ≡ shard → IsOfShard shard text bytes →
-    Outcome cluster s start waited status w
-streamed_of laws cluster s start whole waited status text bytes w unwaited streamed None found of = absurd of
-streamed_of laws cluster s start whole waited status text bytes w unwaited streamed (Some shard) found (same, all) =
-    outcome_of laws cluster s start whole waited shard status w unwaited found
-    (subst (λ b. IsStreamedFrom (shard_places s shard.schema b) s (shard_log s shard.schema b) start whole status w) all
-    (subst (λ t. IsStreamedFrom (shard_places s t bytes) s (shard_log s t bytes) start whole status w) same streamed))
+streamed_of : Laws → (cluster : ClusterBytes) (s : ShardName) (start : Start) (rules : List RuleText) (whole waited : Type 0) (tables : List Picked) (status : Status) (text bytes : List ℕ) (w : List ℕ) →
+    ((waited → ⊥) → whole) → tables ≡ picked_by (map meant_by rules) (schema_in text).tables →
+    IsStreamedFrom (shard_places s text bytes) tables s (shard_log s text bytes) start whole status w → (shard : Option Shard) → find_shard cluster s ≡ shard → IsOfShard shard text bytes →
+    Outcome cluster s start rules waited status w
+streamed_of laws cluster s start rules whole waited tables status text bytes w unwaited picks streamed None found of = absurd of
+streamed_of laws cluster s start rules whole waited tables status text bytes w unwaited picks streamed (Some shard) found (same, all) =
+    outcome_of laws cluster s start rules whole waited shard tables status w unwaited found (picks ∙ ap (λ t. picked_by (map meant_by rules) (schema_in t).tables) same)
+    (subst (λ b. IsStreamedFrom (shard_places s shard.schema b) tables s (shard_log s shard.schema b) start whole status w) all
+    (subst (λ t. IsStreamedFrom (shard_places s t bytes) tables s (shard_log s t bytes) start whole status w) same streamed))
 
-pub Writes-streamed : Laws → (told : Option ClusterBytes) (s : ShardName) (start : Start) (f : Fetched) (waited : Type 0) (status : Status) (text bytes : List ℕ) (before now : Option (List ℕ)) →
-    IsFetchedOf s text bytes f → IfSome told (λ c. IsOfShard (find_shard c s) text bytes) → (f.mark ≢ None → waited) →
-    Writes before now (IsStreamedFrom (IsPlaced f.entries) s (read_as f) start (f.mark ≡ None) status) → IfSome told (λ c. Writes before now (Outcome c s start waited status))
-Writes-streamed laws None s start f waited status text bytes before now fetched of marked wrote = tt
-Writes-streamed laws (Some c) s start f waited status text bytes before now fetched of marked wrote =
-    Writes-weaken (IsStreamedFrom (IsPlaced f.entries) s (read_as f) start (f.mark ≡ None) status) (Outcome c s start waited status) before now
-    (λ w streamed. streamed_of laws c s start (f.mark ≡ None) waited status text bytes w (never_marked f.mark waited marked)
-    (IsStreamedFrom-weaken (IsPlaced f.entries) (shard_places s text bytes) s (shard_log s text bytes) start (f.mark ≡ None) status w
+-- the picked tables are those of the schema that the text says
+picks_said : (rules : List RuleText) (meant : List Meant) (text : List ℕ) (schema : Schema) (tables : List Picked) → meant ≡ map meant_by rules → schema_of text ≡ Ok schema → tables ≡ picked_by meant schema.tables →
+    tables ≡ picked_by (map meant_by rules) (schema_in text).tables
+picks_said rules meant text schema tables same reads picks =
+    picks ∙ ap (λ m. picked_by m schema.tables) same ∙ ap (λ (x : Schema). picked_by (map meant_by rules) x.tables) (sym (schema_read text schema reads))
+
+pub Writes-streamed : Laws → (told : Option ClusterBytes) (s : ShardName) (start : Start) (rules : List RuleText) (meant : List Meant) (f : Fetched) (tables : List Picked) (waited : Type 0) (status : Status) (text bytes : List ℕ) (before now : Option (List ℕ)) →
+    meant ≡ map meant_by rules → IsFetchedOf s meant text bytes f tables → IfSome told (λ c. IsOfShard (find_shard c s) text bytes) → (f.mark ≢ None → waited) →
+    Writes before now (IsStreamedFrom (IsPlaced f.entries) tables s (read_as f) start (f.mark ≡ None) status) → IfSome told (λ c. Writes before now (Outcome c s start rules waited status))
+Writes-streamed laws None s start rules meant f tables waited status text bytes before now same fetched of marked wrote = tt
+Writes-streamed laws (Some c) s start rules meant f tables waited status text bytes before now same fetched of marked wrote =
+    Writes-weaken (IsStreamedFrom (IsPlaced f.entries) tables s (read_as f) start (f.mark ≡ None) status) (Outcome c s start rules waited status) before now
+    (λ w streamed. streamed_of laws c s start rules (f.mark ≡ None) waited tables status text bytes w (never_marked f.mark waited marked)
+    (picks_said rules meant text fetched.schema tables same fetched.reads fetched.picks)
+    (IsStreamedFrom-weaken (IsPlaced f.entries) (shard_places s text bytes) tables s (shard_log s text bytes) start (f.mark ≡ None) status w
     (λ g at there. placed_so (shard_places s text bytes) f.entries g at fetched.places there)
-    (subst (λ l. IsStreamedFrom (IsPlaced f.entries) s l start (f.mark ≡ None) status w) fetched.log streamed)) (find_shard c s) refl of) wrote
+    (subst (λ l. IsStreamedFrom (IsPlaced f.entries) tables s l start (f.mark ≡ None) status w) fetched.log streamed)) (find_shard c s) refl of) wrote
 
 -- where nothing was written
-pub Writes-unread : (told : Option ClusterBytes) (s : ShardName) (start : Start) (waited : Type 0) (status : Status) (sent : Option (List ℕ)) →
-    IfSome told (λ c. IsUnread c s status) → IfSome told (λ c. Writes sent sent (Outcome c s start waited status))
-Writes-unread None s start waited status sent cause = tt
-Writes-unread (Some c) s start waited status sent cause = Writes-none (Outcome c s start waited status) sent (unread refl cause)
+pub Writes-unread : (told : Option ClusterBytes) (s : ShardName) (start : Start) (rules : List RuleText) (waited : Type 0) (status : Status) (sent : Option (List ℕ)) →
+    IfSome told (λ c. IsUnread c s (map meant_by rules) status) → IfSome told (λ c. Writes sent sent (Outcome c s start rules waited status))
+Writes-unread None s start rules waited status sent cause = tt
+Writes-unread (Some c) s start rules waited status sent cause = Writes-none (Outcome c s start rules waited status) sent (unread refl cause)
 
 pub told_always : (P : ClusterBytes → Type 0) (told : Option ClusterBytes) → ((c : ClusterBytes) → P c) → IfSome told P
 told_always P None all = tt
@@ -225,22 +248,45 @@ told_so P Q None f p = tt
 told_so P Q (Some c) f p = f c p
 
 -- what answers the request is the headline
-pub headline_asked : (told : Option ClusterBytes) (left : Option (List ℕ)) (name : ShardName) (start : Start) (waited : ShardName → Type 0) (status : Status) (before now : Option (List ℕ)) →
-    IfSome left (λ input. Asks input name start) → IfSome told (λ c. Writes before now (Outcome c name start (waited name) status)) →
+asked_so : (c : ClusterBytes) (name : ShardName) (start : Start) (rules : List RuleText) (waited : ShardName → Type 0) (input : List ℕ) (status : Status) (written : List ℕ) → AsksBy input name start rules →
+    Filtered c name start rules (waited name) status written → Headline c waited input status written
+asked_so c name start rules waited input status written asks (refused none before) = silent none before
+asked_so c name start rules waited input status written asks (taken lawful outcome) = asked name start rules (asks, lawful) outcome
+
+pub headline_asked : (told : Option ClusterBytes) (left : Option (List ℕ)) (name : ShardName) (start : Start) (rules : List RuleText) (waited : ShardName → Type 0) (status : Status) (before now : Option (List ℕ)) →
+    IfSome left (λ input. AsksBy input name start rules) → IfSome told (λ c. Writes before now (Filtered c name start rules (waited name) status)) →
     IfSome told (λ c. IfSome left (λ input. Writes before now (Headline c waited input status)))
-headline_asked told left name start waited status before now asks wrote =
-    told_so (λ c. Writes before now (Outcome c name start (waited name) status)) (λ c. IfSome left (λ input. Writes before now (Headline c waited input status))) told (λ c w. each left asks c w) wrote
+headline_asked told left name start rules waited status before now asks wrote =
+    told_so (λ c. Writes before now (Filtered c name start rules (waited name) status)) (λ c. IfSome left (λ input. Writes before now (Headline c waited input status))) told (λ c w. each left asks c w) wrote
   where
-    each : (left : Option (List ℕ)) → IfSome left (λ input. Asks input name start) → (c : ClusterBytes) → Writes before now (Outcome c name start (waited name) status) →
+    each : (left : Option (List ℕ)) → IfSome left (λ input. AsksBy input name start rules) → (c : ClusterBytes) → Writes before now (Filtered c name start rules (waited name) status) →
         IfSome left (λ input. Writes before now (Headline c waited input status))
     each None asks c w = tt
     each (Some input) asks c w =
-        Writes-weaken (Outcome c name start (waited name) status) (Headline c waited input status) before now (λ bytes o. asked name start asks o) w
+        Writes-weaken (Filtered c name start rules (waited name) status) (Headline c waited input status) before now (λ bytes f. asked_so c name start rules waited input status bytes asks f) w
+
+-- ---- the rules, before the shard
+
+-- the rules were refused, and nothing was written
+pub filtered_refused : (told : Option ClusterBytes) (name : ShardName) (start : Start) (rules : List RuleText) (waited : Type 0) (status : Status) (sent : Option (List ℕ)) → IsBeforeStream status →
+    IfSome told (λ c. Writes sent sent (Filtered c name start rules waited status))
+filtered_refused told name start rules waited status sent before =
+    told_always (λ c. Writes sent sent (Filtered c name start rules waited status)) told (λ c. Writes-none (Filtered c name start rules waited status) sent (refused refl before))
+
+-- no rule has a fault, and the shard was streamed; its cluster and the waits of its feeds are counted from before the filter was built
+pub filtered_told : (told_before told : Option ClusterBytes) (name : ShardName) (start : Start) (rules : List RuleText) (waits_before waits waits_now : ℕ) (status : Status) (before now : Option (List ℕ)) →
+    told ≡ told_before → waits ≡ waits_before → first_fault rules ≡ None → IfSome told (λ c. Writes before now (Outcome c name start rules (Rose waits waits_now) status)) →
+    IfSome told_before (λ c. Writes before now (Filtered c name start rules (Rose waits_before waits_now) status))
+filtered_told told_before told name start rules waits_before waits waits_now status before now same steady lawful wrote =
+    told_so (λ c. Writes before now (Outcome c name start rules (Rose waits waits_now) status)) (λ c. Writes before now (Filtered c name start rules (Rose waits_before waits_now) status)) told_before
+    (λ c w. Writes-weaken (Outcome c name start rules (Rose waits waits_now) status) (Filtered c name start rules (Rose waits_before waits_now) status) before now
+    (λ written o. taken lawful (subst (λ k. Outcome c name start rules (Rose k waits_now) status written) steady o)) w)
+    (subst (λ t. IfSome t (λ c. Writes before now (Outcome c name start rules (Rose waits waits_now) status))) same wrote)
 
 -- whether a feed waited, counted from before
 pub headline_moved : (c : ClusterBytes) (waited moved : ShardName → Type 0) (input : List ℕ) (status : Status) (written : List ℕ) → ((n : ShardName) → waited n ≡ moved n) →
     Headline c waited input status written → Headline c moved input status written
-headline_moved c waited moved input status written same (asked name start asks outcome) = asked name start asks (subst (λ w. Outcome c name start w status written) (same name) outcome)
+headline_moved c waited moved input status written same (asked name start rules asks outcome) = asked name start rules asks (subst (λ w. Outcome c name start rules w status written) (same name) outcome)
 headline_moved c waited moved input status written same (silent none before) = silent none before
 
 pub headline_told : (told_before told : Option ClusterBytes) (left : Option (List ℕ)) (waits_before waits waits_now : ShardName → ℕ) (status : Status) (before now : Option (List ℕ)) →

@@ -1,148 +1,122 @@
 -- What a log asks for, by what was sent of it.
-use Rattle.std.proofs.Common.{◌≡◌, ℕ, true, false, ◌||◌, not, take, List, Option, Some, None, refl, sym, ap, subst, ◌∙◌}
+use Rattle.std.proofs.Common.{◌≡◌, ℕ, take, List, Option, Some, None, refl, sym, ap, subst, ◌∙◌}
 use Rattle.vs_base.specs.declared.ShardName.{ShardName}
 use Rattle.vs_base.specs.declared.Gtid.{Gtid}
 use Rattle.vs_base.specs.declared.Why.{Why}
-use Rattle.vs_base.specs.declared.Why.TheVariants.{NotBuilt}
+use Rattle.vs_base.specs.declared.Why.TheVariants.{TooLarge}
 use Rattle.vs_gtid.specs.declared.Entry.{Entry}
 use Rattle.vs_gtid.specs.Logs.{Log}
 use Rattle.vs_gtid.specs.Missing.{IsFirstMissing}
-use Rattle.vs_gtid.specs.Positions.{Position, has, IsSubset}
+use Rattle.vs_gtid.specs.Positions.{Position, IsSubset}
+use Rattle.vs_filter.specs.declared.bound.Picked.{Picked}
 use Rattle.vs_log.specs.Laws.{FitAlong}
-use Rattle.vs_model.specs.Logs.{is_gtid_of}
 use Rattle.vs_command.specs.declared.start.Start.{Start}
 use Rattle.vs_command.specs.declared.start.Start.TheVariants.{At, Current}
 use Rattle.vs_command.specs.declared.status.Status.{Status}
 use Rattle.vs_command.specs.declared.status.Status.TheVariants as statuses
-use Rattle.vs_command.specs.Built.{AreBuilt, IsBuilt, built_front, first_unbuilt}
-use Rattle.vs_command.specs.Causes.{CanBeSent, StreamEndsAt, EndsWith, HoldsBase, LogAsksFor}
-use Rattle.vs_command.specs.Sending.{IsTooLargeAlong, StopsAtUnbuilt, lacking}
-use Rattle.vs_command.specs.Streaming.{IsStart, IsUnbuiltFromEnd}
-use Rattle.vs_command.proofs.BuiltLemmas.{front-all, kept, none-unbuilt}
+use Rattle.vs_command.specs.Sizes.{AreSendable, first_oversized, sendable_front}
+use Rattle.vs_command.specs.Causes.{CanBeSent, StreamEndsAt, EndsWith, HoldsBase, IsFrom, LogAsksFor, PositionAsksFor}
+use Rattle.vs_command.specs.Sending.{IsTooLargeAlong, StopsAtOversized, lacking}
+use Rattle.vs_command.specs.Streaming.{IsStart}
+use Rattle.vs_command.proofs.SizeLemmas.{front-all, none-oversized}
 use Rattle.vs_command.proofs.FitLemmas.{fit_all}
 use Rattle.vs_command.proofs.StreamLemmas.{IsEndOf, StartsAt}
 
--- a start at the log's end holds its base
-none_missing : (log : Log) (whole : Type 0) (p : Position) (missing : Gtid) → IsStart log Current whole p → IsFirstMissing log.base p missing → ⊥
-none_missing log whole p missing (m, after, all) first =
-    let held : has p missing ≡ true = after missing ∙ ap (λ b. b || is_gtid_of (take m log.entries) missing) first.is_in in
-    let clash : ◌≡◌ true false = sym held ∙ first.is_missing in
-    cc
+-- the position is one from which the log is streamed
+from_start : (log : Log) (start : Start) (whole : Type 0) (p : Position) → StartsAt log start whole p → (start ≡ Current → FitAlong p (lacking p log.entries)) → IsFrom log start p
+from_start log (At set) whole p at fits = at.is_start
+from_start log Current whole p at fits = let is : IsStart log Current whole p = at.is_start in (at.canonical, fits refl, is.0, is.1)
 
--- what is built is built where a position lacks it
-lacking_built : (p : Position) (es : List Entry) → AreBuilt es → AreBuilt (lacking p es)
-lacking_built p es built = kept (λ e. IsBuilt e.work) (λ e. not (has p e.gtid)) es built
+asks : (stands : Gtid → ℕ → Type 0) (tables : List Picked) (s : ShardName) (log : Log) (start : Start) (whole : Type 0) (p : Position) (status : Status) → StartsAt log start whole p →
+    (start ≡ Current → FitAlong p (lacking p log.entries)) → PositionAsksFor stands tables s log p status → LogAsksFor stands tables s log start status
+asks stands tables s log start whole p status at fits for = (p, from_start log start whole p at fits, for)
 
 -- the log begins behind the start
-pub asks_purged : (stands : Gtid → ℕ → Type 0) (s : ShardName) (log : Log) (start : Start) (whole : Type 0) (p : Position) (missing : Gtid) → StartsAt log start whole p → IsFirstMissing log.base p missing →
-    LogAsksFor stands s log start (statuses.Purged s missing)
-asks_purged stands s log (At set) whole p missing at first = (refl, subst (λ q. IsFirstMissing log.base q missing) at.is_start first)
-asks_purged stands s log Current whole p missing at first = absurd (none_missing log whole p missing at.is_start first)
+pub asks_purged : (stands : Gtid → ℕ → Type 0) (tables : List Picked) (s : ShardName) (log : Log) (start : Start) (whole : Type 0) (p : Position) (missing : Gtid) → StartsAt log start whole p → (start ≡ Current → FitAlong p (lacking p log.entries)) → IsFirstMissing log.base p missing →
+    LogAsksFor stands tables s log start (statuses.Purged s missing)
+asks_purged stands tables s log start whole p missing at fits first = asks stands tables s log start whole p (statuses.Purged s missing) at fits (refl, first)
 
 -- the base lies in a start, where it lies in the position of the start
 pub holds_base : (log : Log) (start : Start) (whole : Type 0) (p : Position) → StartsAt log start whole p → IsSubset log.base p → HoldsBase log start
 holds_base log (At set) whole p at base = subst (λ q. IsSubset log.base q) at.is_start base
 holds_base log Current whole p at base = tt
 
-can_be_sent : (log : Log) (start : Start) (whole : Type 0) (p : Position) → StartsAt log start whole p → IsSubset log.base p → FitAlong p (built_front (lacking p log.entries)) → CanBeSent log start
-can_be_sent log (At set) whole p at base fit = subst (λ q. CanBeSent log (At q)) at.is_start (record { base = base; room = fit_all p (built_front (lacking p log.entries)) fit })
-can_be_sent log Current whole p at base fit = record { base = tt; room = tt }
+can_be_sent : (tables : List Picked) (s : ShardName) (log : Log) (p : Position) → IsSubset log.base p → FitAlong p (sendable_front tables s (lacking p log.entries)) → CanBeSent tables s log p
+can_be_sent tables s log p base fit = record { base = base; room = fit_all p (sendable_front tables s (lacking p log.entries)) fit }
 
 -- a due entry makes a position that is too large
-pub asks_too_large : (stands : Gtid → ℕ → Type 0) (s : ShardName) (log : Log) (start : Start) (whole : Type 0) (p : Position) → StartsAt log start whole p → IsSubset log.base p →
-    (start ≡ Current → AreBuilt log.entries) → (start ≡ Current → FitAlong p (lacking p log.entries)) → IsTooLargeAlong p (built_front (lacking p log.entries)) →
-    LogAsksFor stands s log start (statuses.PositionTooLarge s)
-asks_too_large stands s log (At set) whole p at base built fits large = subst (λ q. LogAsksFor stands s log (At q) (statuses.PositionTooLarge s)) at.is_start (refl, base, large)
-asks_too_large stands s log Current whole p at base built fits large =
-    absurd (fit_all p (lacking p log.entries) (fits refl) (subst (λ es. IsTooLargeAlong p es) (front-all (lacking p log.entries) (lacking_built p log.entries (built refl))) large))
+pub asks_too_large : (stands : Gtid → ℕ → Type 0) (tables : List Picked) (s : ShardName) (log : Log) (start : Start) (whole : Type 0) (p : Position) → StartsAt log start whole p → (start ≡ Current → FitAlong p (lacking p log.entries)) → IsSubset log.base p →
+    IsTooLargeAlong p (sendable_front tables s (lacking p log.entries)) → LogAsksFor stands tables s log start (statuses.PositionTooLarge s)
+asks_too_large stands tables s log start whole p at fits base large = asks stands tables s log start whole p (statuses.PositionTooLarge s) at fits (refl, base, large)
 
--- a due entry isn't built
-pub asks_unbuilt : (stands : Gtid → ℕ → Type 0) (s : ShardName) (log : Log) (start : Start) (whole : Type 0) (p : Position) (offset : ℕ) → StartsAt log start whole p → IsSubset log.base p →
-    (start ≡ Current → AreBuilt log.entries) → StopsAtUnbuilt stands p (lacking p log.entries) offset → LogAsksFor stands s log start (statuses.BadLog s offset NotBuilt)
-asks_unbuilt stands s log (At set) whole p offset at base built ((e, first, there), fit) = (
-  refl,
-  can_be_sent log (At set) whole p at base fit,
-  subst (λ q. EndsWith stands log (At q) (Some (offset, NotBuilt))) at.is_start (subst (λ o. StreamEndsAt stands log.fault o (Some (offset, NotBuilt))) (sym first) (offset, there, refl)),
-)
-asks_unbuilt stands s log Current whole p offset at base built ((e, first, there), fit) =
-    let clash : ◌≡◌ {A = Option Entry} (Some e) None = sym first ∙ none-unbuilt (lacking p log.entries) (lacking_built p log.entries (built refl)) in
-    absurd (cc)
+-- a due entry is too large
+pub asks_oversized : (stands : Gtid → ℕ → Type 0) (tables : List Picked) (s : ShardName) (log : Log) (start : Start) (whole : Type 0) (p : Position) (offset bytes : ℕ) → StartsAt log start whole p → (start ≡ Current → FitAlong p (lacking p log.entries)) → IsSubset log.base p →
+    StopsAtOversized stands tables s p (lacking p log.entries) offset bytes → LogAsksFor stands tables s log start (statuses.BadLog s offset (TooLarge bytes))
+asks_oversized stands tables s log start whole p offset bytes at fits base (e, first, over, fit) =
+    asks stands tables s log start whole p (statuses.BadLog s offset (TooLarge bytes)) at fits (
+      refl,
+      can_be_sent tables s log p base fit,
+      subst (λ o. StreamEndsAt stands tables s log.fault o (Some (offset, TooLarge bytes))) (sym first) (offset, bytes, over, refl),
+    )
 
--- from the log's end, an entry of it isn't built
-pub asks_unbuilt_from_end : (stands : Gtid → ℕ → Type 0) (s : ShardName) (log : Log) (start : Start) (offset : ℕ) → IsUnbuiltFromEnd stands log start offset →
-    LogAsksFor stands s log start (statuses.BadLog s offset NotBuilt)
-asks_unbuilt_from_end stands s log start offset (current, (e, first, there)) = subst (λ x. LogAsksFor stands s log x (statuses.BadLog s offset NotBuilt)) (sym current) (
-  refl,
-  record { base = tt; room = tt },
-  subst (λ o. StreamEndsAt stands log.fault o (Some (offset, NotBuilt))) (sym first) (offset, there, refl),
-)
+-- where each entry that is due can be sent, the log's own fault ends the stream
+ends_own : (stands : Gtid → ℕ → Type 0) (tables : List Picked) (s : ShardName) (log : Log) (p : Position) (fault : Option (ℕ × Why)) → AreSendable tables s (lacking p log.entries) → log.fault ≡ fault →
+    EndsWith stands tables s log p fault
+ends_own stands tables s log p fault sendable own =
+    subst (λ o. StreamEndsAt stands tables s log.fault o fault) (sym (none-oversized tables s (lacking p log.entries) sendable)) (sym own)
 
--- where each entry that counts is built, the log's own fault ends the stream
-ends_own : (stands : Gtid → ℕ → Type 0) (log : Log) (start : Start) (whole : Type 0) (p : Position) (fault : Option (ℕ × Why)) → StartsAt log start whole p → AreBuilt (lacking p log.entries) →
-    (start ≡ Current → AreBuilt log.entries) → log.fault ≡ fault → EndsWith stands log start fault
-ends_own stands log (At set) whole p fault at built all own =
-    subst (λ q. EndsWith stands log (At q) fault) at.is_start (subst (λ o. StreamEndsAt stands log.fault o fault) (sym (none-unbuilt (lacking p log.entries) built)) (sym own))
-ends_own stands log Current whole p fault at built all own = subst (λ o. StreamEndsAt stands log.fault o fault) (sym (none-unbuilt log.entries (all refl))) (sym own)
+all_can_be : (tables : List Picked) (s : ShardName) (log : Log) (p : Position) → IsSubset log.base p → AreSendable tables s (lacking p log.entries) → FitAlong p (lacking p log.entries) → CanBeSent tables s log p
+all_can_be tables s log p base sendable fit =
+    can_be_sent tables s log p base (subst (λ es. FitAlong p es) (sym (front-all tables s (lacking p log.entries) sendable)) fit)
+
+end_asks : (stands : Gtid → ℕ → Type 0) (tables : List Picked) (s : ShardName) (log : Log) (p : Position) (status : Status) → IsSubset log.base p → AreSendable tables s (lacking p log.entries) →
+    FitAlong p (lacking p log.entries) → IsEndOf s log status → PositionAsksFor stands tables s log p status
+end_asks stands tables s log p statuses.Done base sendable fit end = (all_can_be tables s log p base sendable fit, ends_own stands tables s log p None sendable end)
+end_asks stands tables s log p (statuses.BadLog name offset why) base sendable fit end =
+    (end.0, all_can_be tables s log p base sendable fit, ends_own stands tables s log p (Some (offset, why)) sendable end.1)
+end_asks stands tables s log p statuses.Memory base sendable fit end = absurd end
+end_asks stands tables s log p statuses.Usage base sendable fit end = absurd end
+end_asks stands tables s log p (statuses.BadFrame number frame_why) base sendable fit end = absurd end
+end_asks stands tables s log p (statuses.Request fault) base sendable fit end = absurd end
+end_asks stands tables s log p (statuses.UnknownShard name) base sendable fit end = absurd end
+end_asks stands tables s log p (statuses.Purged name missing) base sendable fit end = absurd end
+end_asks stands tables s log p (statuses.FeedFault name) base sendable fit end = absurd end
+end_asks stands tables s log p statuses.LinkFault base sendable fit end = absurd end
+end_asks stands tables s log p statuses.InputFault base sendable fit end = absurd end
+end_asks stands tables s log p (statuses.OpenFault name) base sendable fit end = absurd end
+end_asks stands tables s log p (statuses.PositionTooLarge name) base sendable fit end = absurd end
+end_asks stands tables s log p (statuses.BadSchema name line) base sendable fit end = absurd end
 
 -- all that was due was sent
-record AllSent (log : Log) (start : Start) (whole : Type 0) (p : Position) : Type 0 where
-  pub at : StartsAt log start whole p
-  pub base : IsSubset log.base p
-  pub built : AreBuilt (lacking p log.entries)
-  pub all : start ≡ Current → AreBuilt log.entries
-  pub fit : FitAlong p (lacking p log.entries)
-
-sent_can_be : (log : Log) (start : Start) (whole : Type 0) (p : Position) → AllSent log start whole p → CanBeSent log start
-sent_can_be log start whole p sent =
-    can_be_sent log start whole p sent.at sent.base (subst (λ es. FitAlong p es) (sym (front-all (lacking p log.entries) sent.built)) sent.fit)
-
-asks_end : (stands : Gtid → ℕ → Type 0) (s : ShardName) (log : Log) (start : Start) (whole : Type 0) (p : Position) (status : Status) → AllSent log start whole p → IsEndOf s log status →
-    LogAsksFor stands s log start status
-asks_end stands s log start whole p statuses.Done sent end = (sent_can_be log start whole p sent, ends_own stands log start whole p None sent.at sent.built sent.all end)
-asks_end stands s log start whole p (statuses.BadLog name offset why) sent end =
-    (end.0, sent_can_be log start whole p sent, ends_own stands log start whole p (Some (offset, why)) sent.at sent.built sent.all end.1)
-asks_end stands s log start whole p statuses.Memory sent end = absurd end
-asks_end stands s log start whole p statuses.Usage sent end = absurd end
-asks_end stands s log start whole p (statuses.BadFrame number frame_why) sent end = absurd end
-asks_end stands s log start whole p (statuses.Request fault) sent end = absurd end
-asks_end stands s log start whole p (statuses.UnknownShard name) sent end = absurd end
-asks_end stands s log start whole p (statuses.Purged name missing) sent end = absurd end
-asks_end stands s log start whole p (statuses.FeedFault name) sent end = absurd end
-asks_end stands s log start whole p statuses.LinkFault sent end = absurd end
-asks_end stands s log start whole p statuses.InputFault sent end = absurd end
-asks_end stands s log start whole p (statuses.OpenFault name) sent end = absurd end
-asks_end stands s log start whole p (statuses.PositionTooLarge name) sent end = absurd end
-asks_end stands s log start whole p (statuses.BadSchema name line) sent end = absurd end
-
-pub due_end : (stands : Gtid → ℕ → Type 0) (s : ShardName) (log : Log) (start : Start) (whole : Type 0) (p : Position) (status : Status) → StartsAt log start whole p → IsSubset log.base p →
-    AreBuilt (lacking p log.entries) → (start ≡ Current → AreBuilt log.entries) → FitAlong p (lacking p log.entries) → IsEndOf s log status → LogAsksFor stands s log start status
-due_end stands s log start whole p status at base built all fit end = asks_end stands s log start whole p status (record { at = at; base = base; built = built; all = all; fit = fit }) end
+pub due_end : (stands : Gtid → ℕ → Type 0) (tables : List Picked) (s : ShardName) (log : Log) (start : Start) (whole : Type 0) (p : Position) (status : Status) → StartsAt log start whole p → (start ≡ Current → FitAlong p (lacking p log.entries)) → IsSubset log.base p →
+    AreSendable tables s (lacking p log.entries) → FitAlong p (lacking p log.entries) → IsEndOf s log status → LogAsksFor stands tables s log start status
+due_end stands tables s log start whole p status at fits base sendable fit end = asks stands tables s log start whole p status at fits (end_asks stands tables s log p status base sendable fit end)
 
 -- ---- the same, by what is said of where GTID events stand
 
-EndsAt-weaken : (P Q : Gtid → ℕ → Type 0) (own : Option (ℕ × Why)) (first : Option Entry) (fault : Option (ℕ × Why)) → ((g : Gtid) (at : ℕ) → P g at → Q g at) → StreamEndsAt P own first fault → StreamEndsAt Q own first fault
-EndsAt-weaken P Q own None fault f ends = ends
-EndsAt-weaken P Q own (Some e) fault f (at, there, is) = (at, f e.gtid at there, is)
+EndsAt-weaken : (P Q : Gtid → ℕ → Type 0) (tables : List Picked) (s : ShardName) (own : Option (ℕ × Why)) (first : Option Entry) (fault : Option (ℕ × Why)) → ((g : Gtid) (at : ℕ) → P g at → Q g at) →
+    StreamEndsAt P tables s own first fault → StreamEndsAt Q tables s own first fault
+EndsAt-weaken P Q tables s own None fault f ends = ends
+EndsAt-weaken P Q tables s own (Some e) fault f (at, bytes, over, is) = (at, bytes, (f e.gtid at over.0, over.1), is)
 
-EndsWith-weaken : (P Q : Gtid → ℕ → Type 0) (log : Log) (start : Start) (fault : Option (ℕ × Why)) → ((g : Gtid) (at : ℕ) → P g at → Q g at) → EndsWith P log start fault → EndsWith Q log start fault
-EndsWith-weaken P Q log (At p) fault f ends = EndsAt-weaken P Q log.fault (first_unbuilt (lacking p log.entries)) fault f ends
-EndsWith-weaken P Q log Current fault f ends = EndsAt-weaken P Q log.fault (first_unbuilt log.entries) fault f ends
+Position-weaken : (P Q : Gtid → ℕ → Type 0) (tables : List Picked) (s : ShardName) (log : Log) (p : Position) (status : Status) → ((g : Gtid) (at : ℕ) → P g at → Q g at) →
+    PositionAsksFor P tables s log p status → PositionAsksFor Q tables s log p status
+Position-weaken P Q tables s log p statuses.Done f for = (for.0, EndsAt-weaken P Q tables s log.fault (first_oversized tables s (lacking p log.entries)) None f for.1)
+Position-weaken P Q tables s log p (statuses.BadLog name offset why) f for =
+    (for.0, for.1, EndsAt-weaken P Q tables s log.fault (first_oversized tables s (lacking p log.entries)) (Some (offset, why)) f for.2)
+Position-weaken P Q tables s log p (statuses.Purged name missing) f for = for
+Position-weaken P Q tables s log p (statuses.PositionTooLarge name) f for = for
+Position-weaken P Q tables s log p statuses.Memory f for = absurd for
+Position-weaken P Q tables s log p statuses.Usage f for = absurd for
+Position-weaken P Q tables s log p (statuses.BadFrame number frame_why) f for = absurd for
+Position-weaken P Q tables s log p (statuses.Request fault) f for = absurd for
+Position-weaken P Q tables s log p (statuses.UnknownShard name) f for = absurd for
+Position-weaken P Q tables s log p (statuses.FeedFault name) f for = absurd for
+Position-weaken P Q tables s log p statuses.LinkFault f for = absurd for
+Position-weaken P Q tables s log p statuses.InputFault f for = absurd for
+Position-weaken P Q tables s log p (statuses.OpenFault name) f for = absurd for
+Position-weaken P Q tables s log p (statuses.BadSchema name line) f for = absurd for
 
-pub LogAsksFor-weaken : (P Q : Gtid → ℕ → Type 0) (s : ShardName) (log : Log) (start : Start) (status : Status) → ((g : Gtid) (at : ℕ) → P g at → Q g at) →
-    LogAsksFor P s log start status → LogAsksFor Q s log start status
-LogAsksFor-weaken P Q s log start statuses.Done f asks = (asks.0, EndsWith-weaken P Q log start None f asks.1)
-LogAsksFor-weaken P Q s log start (statuses.BadLog name offset why) f asks = (asks.0, asks.1, EndsWith-weaken P Q log start (Some (offset, why)) f asks.2)
-LogAsksFor-weaken P Q s log (At p) (statuses.Purged name missing) f asks = asks
-LogAsksFor-weaken P Q s log Current (statuses.Purged name missing) f asks = absurd asks
-LogAsksFor-weaken P Q s log (At p) (statuses.PositionTooLarge name) f asks = asks
-LogAsksFor-weaken P Q s log Current (statuses.PositionTooLarge name) f asks = absurd asks
-LogAsksFor-weaken P Q s log start statuses.Memory f asks = absurd asks
-LogAsksFor-weaken P Q s log start statuses.Usage f asks = absurd asks
-LogAsksFor-weaken P Q s log start (statuses.BadFrame number frame_why) f asks = absurd asks
-LogAsksFor-weaken P Q s log start (statuses.Request fault) f asks = absurd asks
-LogAsksFor-weaken P Q s log start (statuses.UnknownShard name) f asks = absurd asks
-LogAsksFor-weaken P Q s log start (statuses.FeedFault name) f asks = absurd asks
-LogAsksFor-weaken P Q s log start statuses.LinkFault f asks = absurd asks
-LogAsksFor-weaken P Q s log start statuses.InputFault f asks = absurd asks
-LogAsksFor-weaken P Q s log start (statuses.OpenFault name) f asks = absurd asks
-LogAsksFor-weaken P Q s log start (statuses.BadSchema name line) f asks = absurd asks
+pub LogAsksFor-weaken : (P Q : Gtid → ℕ → Type 0) (tables : List Picked) (s : ShardName) (log : Log) (start : Start) (status : Status) → ((g : Gtid) (at : ℕ) → P g at → Q g at) →
+    LogAsksFor P tables s log start status → LogAsksFor Q tables s log start status
+LogAsksFor-weaken P Q tables s log start status f (p, from, for) = (p, from, Position-weaken P Q tables s log p status f for)

@@ -15,6 +15,8 @@ use Rattle.vs_outside.specs.Clusters.{Shard, ClusterBytes, find_shard}
 use Rattle.vs_schema.specs.declared.schema.Schema.{Schema}
 use Rattle.vs_schema.specs.declared.refusal.SchemaRefusal.TheVariants as refusal
 use Rattle.vs_schema.specs.Rules.{schema_of}
+use Rattle.vs_filter.specs.Rules.{Meant, first_unbound, picked_by}
+use Rattle.vs_filter.specs.declared.bound.Picked.{Picked}
 use Rattle.vs_log.specs.Events.{joined, magic}
 use Rattle.vs_log.specs.Laws.{Grows}
 use Rattle.vs_log.specs.Meaning.{log_meant}
@@ -27,9 +29,11 @@ use Rattle.vs_entries.specs.declared.took.Took.TheVariants as took
 use Rattle.vs_command.specs.declared.fetched.Fetched.{Fetched}
 use Rattle.vs_command.specs.declared.fetched.LogFault.{LogFault}
 use Rattle.vs_command.specs.declared.fetched.Placed.{Placed}
+use Rattle.vs_command.specs.Causes.{IsBindingFault}
 use Rattle.vs_command.specs.Fetched.{ArePlaced, HasGiven, HasGivenAll, IsFetchedOf, IsOfShard, IsSameLog, fault_of, read_as}
-use Rattle.vs_command.specs.Stages.{HasSchema}
-use Rattle.vs_command.specs.Streaming.{or_none, schema_in}
+use Rattle.vs_command.specs.Stages.{HasBinding}
+use Rattle.vs_command.specs.declared.status.RequestFault.{RequestFault}
+use Rattle.vs_command.specs.Streaming.{HasBadSchema, IsFaultOfBinding, IsUnboundFault, or_none, schema_in}
 
 -- ---- more bytes
 
@@ -100,14 +104,14 @@ HasGiven-all r placed fault h all told = record {
 
 -- ---- what was fetched
 
-schema_read : (text : List ℕ) (schema : Schema) → schema_of text ≡ Ok schema → schema_in text ≡ schema
+pub schema_read : (text : List ℕ) (schema : Schema) → schema_of text ≡ Ok schema → schema_in text ≡ schema
 unfolding schema_in
 schema_read text schema h = ap or_none h
 
 -- a schema that was read is the one that the text says
-pub schema_said : (text bytes : List ℕ) (schema : Schema) → bytes ≡ text → (Ok schema ≡ Err refusal.Memory) ⊎ (Ok schema ≡ schema_of bytes) → schema_of text ≡ Ok schema
-schema_said text bytes schema same (◌⊎◌.inl spent) = absurd (cc)
-schema_said text bytes schema same (◌⊎◌.inr is) = sym (is ∙ ap schema_of same)
+pub schema_said : (text : List ℕ) (schema : Schema) → (Ok schema ≡ Err refusal.Memory) ⊎ (Ok schema ≡ schema_of text) → schema_of text ≡ Ok schema
+schema_said text schema (◌⊎◌.inl spent) = absurd (cc)
+schema_said text schema (◌⊎◌.inr is) = sym is
 
 -- where the cluster is told, it has the shard
 of_shard : (told : Option ClusterBytes) (name : ShardName) (all given : Option (List ℕ)) (text bytes : List ℕ) →
@@ -118,27 +122,52 @@ of_shard (Some c) name all given text bytes opened whole =
     let it = opened c refl in
     subst (λ o. IsOfShard o text bytes) (sym it.1) (it.4, subst (λ o. IfSome o (λ a. bytes ≡ a)) it.2 whole)
 
--- where the cluster is told, it has the shard, and its schema text reads
-pub schema_told : (told : Option ClusterBytes) (name : ShardName) (all given : Option (List ℕ)) (text : List ℕ) (schema : Schema) →
+-- where the cluster is told, it has the shard, its schema text reads, and the rules bind to it
+pub binding_told : (told : Option ClusterBytes) (name : ShardName) (rules : List Meant) (all given : Option (List ℕ)) (text bytes : List ℕ) (schema : Schema) →
     ForSome told (λ c. (s : Shard) × (find_shard c name ≡ Some s) × (all ≡ Some s.log) × (given ≡ Some []) × (text ≡ s.schema)) →
-    schema_of text ≡ Ok schema → IfSome told (λ c. HasSchema (find_shard c name))
-schema_told None name all given text schema opened reads = tt
-schema_told (Some c) name all given text schema opened reads =
+    bytes ≡ text → schema_of bytes ≡ Ok schema → first_unbound rules schema.tables ≡ None → IfSome told (λ c. HasBinding (find_shard c name) rules)
+binding_told None name rules all given text bytes schema opened same reads binds = tt
+binding_told (Some c) name rules all given text bytes schema opened same reads binds =
     let it = opened c refl in
-    subst (λ o. HasSchema o) (sym it.1) (schema, subst (λ t. schema_of t ≡ Ok schema) it.4 reads)
+    subst (λ o. HasBinding o rules) (sym it.1) (schema, subst (λ t. schema_of t ≡ Ok schema) (same ∙ it.4) reads, binds)
 
-pub fetched_of : (told : Option ClusterBytes) (name : ShardName) (all given : Option (List ℕ)) (text : List ℕ) (schema : Schema) (f : Fetched) →
+-- the schema text is refused
+pub bad_told : (told : Option ClusterBytes) (name : ShardName) (all given : Option (List ℕ)) (text bytes : List ℕ) (line : ℕ) →
     ForSome told (λ c. (s : Shard) × (find_shard c name ≡ Some s) × (all ≡ Some s.log) × (given ≡ Some []) × (text ≡ s.schema)) →
-    schema_of text ≡ Ok schema →
+    bytes ≡ text → schema_of bytes ≡ Err (refusal.BadSchema line) → IfSome told (λ c. HasBadSchema (find_shard c name) line)
+bad_told None name all given text bytes line opened same bad = tt
+bad_told (Some c) name all given text bytes line opened same bad =
+    let it = opened c refl in
+    subst (λ o. HasBadSchema o line) (sym it.1) (subst (λ t. schema_of t ≡ Err (refusal.BadSchema line)) (same ∙ it.4) bad)
+
+-- a rule doesn't bind
+pub unbound_told : (told : Option ClusterBytes) (name : ShardName) (rules : List Meant) (all given : Option (List ℕ)) (text bytes : List ℕ) (fault : RequestFault) →
+    ForSome told (λ c. (s : Shard) × (find_shard c name ≡ Some s) × (all ≡ Some s.log) × (given ≡ Some []) × (text ≡ s.schema)) →
+    bytes ≡ text → IsFaultOfBinding bytes rules fault → IfSome told (λ c. IsUnboundFault (find_shard c name) rules fault)
+unbound_told None name rules all given text bytes fault opened same unbound = tt
+unbound_told (Some c) name rules all given text bytes fault opened same unbound =
+    let it = opened c refl in
+    subst (λ o. IsUnboundFault o rules fault) (sym it.1) (subst (λ t. IsFaultOfBinding t rules fault) (same ∙ it.4) unbound)
+
+-- what doesn't bind to a text is a fault of binding
+pub binding_of : (text : List ℕ) (rules : List Meant) (fault : RequestFault) → IsFaultOfBinding text rules fault → IsBindingFault fault
+binding_of text rules fault (index, why, is, not) = (index, why, is)
+
+pub fetched_of : (told : Option ClusterBytes) (name : ShardName) (rules : List Meant) (all given : Option (List ℕ)) (text read : List ℕ) (schema : Schema) (f : Fetched) (tables : List Picked) →
+    ForSome told (λ c. (s : Shard) × (find_shard c name ≡ Some s) × (all ≡ Some s.log) × (given ≡ Some []) × (text ≡ s.schema)) →
+    read ≡ text → schema_of read ≡ Ok schema → first_unbound rules schema.tables ≡ None → tables ≡ picked_by rules schema.tables →
     (bytes : List ℕ) × (read_as f ≡ log_meant (rules_of name.keyspace schema) bytes) × ArePlaced (StandsAt (rules_of name.keyspace schema) bytes) f.entries × IfSome all (λ a. bytes ≡ a) →
-    (t bytes : List ℕ) × IsFetchedOf name t bytes f × IfSome told (λ c. IsOfShard (find_shard c name) t bytes)
-fetched_of told name all given text schema f opened reads (bytes, meant, placed, whole) =
+    (t bytes : List ℕ) × IsFetchedOf name rules t bytes f tables × IfSome told (λ c. IsOfShard (find_shard c name) t bytes)
+fetched_of told name rules all given text read schema f tables opened is said binds picks (bytes, meant, placed, whole) =
+    let reads : schema_of text ≡ Ok schema = subst (λ t. schema_of t ≡ Ok schema) is said in
     let same : schema_in text ≡ schema = schema_read text schema reads in (
       text,
       bytes,
       record {
         schema = schema;
         reads = reads;
+        binds = binds;
+        picks = picks;
         log = meant ∙ ap (λ x. log_meant (rules_of name.keyspace x) bytes) (sym same);
         places = subst (λ x. ArePlaced (StandsAt (rules_of name.keyspace x) bytes) f.entries) (sym same) placed;
       },

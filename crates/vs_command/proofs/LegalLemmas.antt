@@ -6,6 +6,13 @@ use Rattle.std.proofs.Math.Bool.{or-false, or_assoc}
 use Rattle.vs_base.specs.declared.ShardName.{ShardName}
 use Rattle.vs_base.specs.declared.Gtid.{Gtid}
 use Rattle.vs_base.specs.Names.{same_gtid}
+use Rattle.vs_base.specs.declared.table.Table.{Table}
+use Rattle.vs_filter.specs.Picks.{bound_in}
+use Rattle.vs_filter.specs.declared.bound.Picked.{Picked}
+use Rattle.vs_render.specs.Bodies.{columns_in}
+use Rattle.vs_render.specs.Events.{Telling}
+use Rattle.vs_render.specs.Frames.{frame_bytes, frames_bytes}
+use Rattle.vs_render.specs.Laws.{BodiesMakeFrames}
 use Rattle.vs_base.proofs.NameLemmas.{same_name-refl}
 use Rattle.vs_gtid.specs.declared.Work.{Work}
 use Rattle.vs_gtid.specs.declared.Work.TheVariants.{Rows, Ddl, Other, Journal}
@@ -14,21 +21,19 @@ use Rattle.vs_gtid.specs.Positions.{Position, has, IsSubset, IsCanonical}
 use Rattle.vs_gtid.specs.Joins.{added}
 use Rattle.vs_gtid.specs.Logs.{Log}
 use Rattle.vs_entries.specs.Rules.{IsNoJournal}
-use Rattle.vs_command.specs.Built.{AreBuilt, IsBuilt}
 use Rattle.vs_gtid.proofs.JoinLemmas.{has-added}
 use Rattle.vs_model.specs.Logs.{Cluster, LogsAreDistinct, log_of, after, due, stop, own_of, journal_of, up_to_own, first_own, IsPositionAfter, is_gtid_of}
 use Rattle.vs_gtid.specs.Vectors.{Vector, Place, place_of, moved}
 use Rattle.vs_gtid.specs.Vectors.Place.{Streaming}
 use Rattle.vs_model.specs.Frames.{Frame, last_vector}
 use Rattle.vs_model.specs.Frames.Frame.{AllCopied}
-use Rattle.vs_model.specs.Copy.{picked}
+use Rattle.vs_model.specs.Copy.{Filter, picked}
 use Rattle.vs_model.specs.Legal.{AllCopiedFollows, NoParticipantStands}
 use Rattle.vs_model.specs.Steps.{SendsTx, Steps}
-use Rattle.vs_command.specs.Sending.{vector_at, position_after, entry_frames, IsCanonicalAlong}
+use Rattle.vs_command.specs.Sending.{vector_at, position_after, entries_bytes, entry_bytes, entry_frames, next_frame, IsCanonicalAlong}
 use Rattle.vs_entries.specs.Laws.{AreNoJournals}
 use Rattle.vs_model.specs.Laws.{DueGoesOn, TransactionsAreSteps}
-use Rattle.vs_command.proofs.BuiltLemmas.{kept}
-use Rattle.vs_command.specs.Streaming.{takes_all}
+use Rattle.vs_command.proofs.SizeLemmas.{kept}
 
 -- the position with a GTID is the one after its entry
 after_one : (p : Position) (e : Entry) → IsPositionAfter p (e ∷ []) (added p e.gtid)
@@ -39,16 +44,15 @@ after_all p [] g = sym (or-false (has p g))
 after_all p (e ∷ es) g =
     after_all (added p e.gtid) es g ∙ ap (λ b. b || is_gtid_of es g) (has-added p e.gtid g) ∙ or_assoc (has p g) (same_gtid e.gtid g) (is_gtid_of es g)
 
--- everything is taken of what is built
-taken : (s : ShardName) (g : Gtid) (t : ℕ) (w : Work) → IsBuilt w →
-    ◌≡◌ {A = Entry} (record { gtid = g; time = t; work = w }) (picked (takes_all s) (record { gtid = g; time = t; work = w }))
-taken s g t (Ddl text) h = refl
-taken s g t Other h = refl
-taken s g t (Rows []) h = refl
-taken s g t (Rows (c ∷ changes)) h = absurd (cc)
-taken s g t (Journal j) h = absurd h
+-- an entry is picked alike under each schema
+picked_same : (tables : List Picked) (schema : List Table) (g : Gtid) (t : ℕ) (w : Work) →
+    ◌≡◌ {A = Entry} (picked (bound_in tables []) (record { gtid = g; time = t; work = w })) (picked (bound_in tables schema) (record { gtid = g; time = t; work = w }))
+picked_same tables schema g t (Ddl text) = refl
+picked_same tables schema g t Other = refl
+picked_same tables schema g t (Rows changes) = refl
+picked_same tables schema g t (Journal j) = refl
 
-not_foreign : (s : ShardName) (v : Vector) (w : Work) → IsBuilt w → IfSome (journal_of w) (NoParticipantStands s v)
+not_foreign : (s : ShardName) (v : Vector) (w : Work) → IsNoJournal w → IfSome (journal_of w) (NoParticipantStands s v)
 not_foreign s v (Ddl text) h = tt
 not_foreign s v Other h = tt
 not_foreign s v (Rows changes) h = tt
@@ -73,48 +77,64 @@ subset_added base p g within x h = subst IsTrue (sym (has-added p g x)) (or_true
     or_true true b h = refl
     or_true false b h = absurd (cc)
 
-sends : (cluster : Cluster) (s : ShardName) (p : Position) (e : Entry) (rest : List Entry) → IsBuilt e.work → due s (log_of cluster s) p ≡ e ∷ rest →
-    IsSubset (log_of cluster s).base p → IsCanonical (added p e.gtid) → SendsTx cluster takes_all (vector_at s p) s e (vector_at s (added p e.gtid))
-sends cluster s p e rest built first base canonical = record {
+-- the filter of the shard picks from these tables
+abbrev pub PicksFrom : Filter → ShardName → List Picked → Type 0
+PicksFrom rules s tables = (schema : List Table) × (rules s ≡ bound_in tables schema)
+
+told_is : (rules : Filter) (s : ShardName) (tables : List Picked) (e : Entry) → PicksFrom rules s tables → picked (bound_in tables []) e ≡ picked (rules s) e
+told_is rules s tables e (schema, is) = picked_same tables schema e.gtid e.time e.work ∙ ap (λ b. picked b e) (sym is)
+
+sends : (cluster : Cluster) (rules : Filter) (tables : List Picked) (s : ShardName) (p : Position) (e : Entry) (rest : List Entry) → PicksFrom rules s tables → IsNoJournal e.work → due s (log_of cluster s) p ≡ e ∷ rest →
+    IsSubset (log_of cluster s).base p → IsCanonical (added p e.gtid) → SendsTx cluster rules (vector_at s p) s (picked (bound_in tables []) e) (vector_at s (added p e.gtid))
+sends cluster rules tables s p e rest picks plain first base canonical = record {
   p = p;
   e = e;
   rest = rest;
   q = added p e.gtid;
   streams = stands_at s p;
   first = first;
-  told_is = taken s e.gtid e.time e.work built;
+  told_is = told_is rules s tables e picks;
   base = base;
   grown = after_one p e;
   vector = moved_at s p (added p e.gtid);
   canonical = (canonical, tt);
-  foreign = not_foreign s (vector_at s p) e.work built;
+  foreign = not_foreign s (vector_at s p) e.work plain;
 }
 
-pub steps_sent : TransactionsAreSteps → DueGoesOn → (cluster : Cluster) (s : ShardName) → LogsAreDistinct cluster → (p : Position) (sent rest : List Entry) →
-    AreBuilt sent → due s (log_of cluster s) p ≡ sent ++ rest → (sent ≡ []) ⊎ IsSubset (log_of cluster s).base p → IsCanonicalAlong p sent →
-    Steps cluster takes_all (vector_at s p) (entry_frames s p sent)
-steps_sent tx due_law cluster s distinct p [] rest built are base canonical = tt
-steps_sent tx due_law cluster s distinct p (e ∷ es) rest built are (◌⊎◌.inl none) canonical = absurd (cc)
-steps_sent tx due_law cluster s distinct p (e ∷ es) rest built are (◌⊎◌.inr base) canonical = (
-  tx cluster takes_all (vector_at s p) (vector_at s (added p e.gtid)) s e distinct (sends cluster s p e (es ++ rest) built.0 are base canonical.0),
-  steps_sent tx due_law cluster s distinct (added p e.gtid) es rest built.1
+pub steps_sent : TransactionsAreSteps → DueGoesOn → (cluster : Cluster) (rules : Filter) (tables : List Picked) (s : ShardName) → PicksFrom rules s tables → LogsAreDistinct cluster → (p : Position) (sent rest : List Entry) →
+    AreNoJournals sent → due s (log_of cluster s) p ≡ sent ++ rest → (sent ≡ []) ⊎ IsSubset (log_of cluster s).base p → IsCanonicalAlong p sent →
+    Steps cluster rules (vector_at s p) (entry_frames tables s p sent)
+steps_sent tx due_law cluster rules tables s picks distinct p [] rest plain are base canonical = tt
+steps_sent tx due_law cluster rules tables s picks distinct p (e ∷ es) rest plain are (◌⊎◌.inl none) canonical = absurd (cc)
+steps_sent tx due_law cluster rules tables s picks distinct p (e ∷ es) rest plain are (◌⊎◌.inr base) canonical = (
+  tx cluster rules (vector_at s p) (vector_at s (added p e.gtid)) s (picked (bound_in tables []) e) distinct (sends cluster rules tables s p e (es ++ rest) picks plain.0 are base canonical.0),
+  steps_sent tx due_law cluster rules tables s picks distinct (added p e.gtid) es rest plain.1
       (due_law s (log_of cluster s) p (added p e.gtid) (e ∷ []) (es ++ rest) (distinct s) are (after_one p e))
       (◌⊎◌.inr (subset_added (log_of cluster s).base p e.gtid base)) canonical.1,
 )
 
+-- the bytes of the frames are those of the bodies with the vectors
+pub frames_spelled : BodiesMakeFrames → (t : Telling) (tables : List Picked) (s : ShardName) → t.fields s ≡ columns_in tables → (p : Position) (es : List Entry) →
+    frames_bytes t (entry_frames tables s p es) ≡ entries_bytes tables s p es
+unfolding entry_bytes
+frames_spelled law t tables s fields p [] = refl
+frames_spelled law t tables s fields p (e ∷ es) =
+    ap (λ l. frame_bytes t (next_frame tables s p e) ++ l) (frames_spelled law t tables s fields (added p e.gtid) es)
+    ∙ ap (λ l. l ++ entries_bytes tables s (added p e.gtid) es) (law t tables [] s e (vector_at s (added p e.gtid)) fields)
+
 -- no copy ends among transactions
-none_copied : (s : ShardName) (p : Position) (sent : List Entry) (before behind : List Frame) → entry_frames s p sent ≡ before ++ AllCopied ∷ behind → ⊥
-none_copied s p [] [] behind h = cc
-none_copied s p [] (b ∷ before) behind h = cc
-none_copied s p (e ∷ es) [] behind h = cc
-none_copied s p (e ∷ es) (b ∷ before) behind h = none_copied s (added p e.gtid) es before behind (let t : entry_frames s (added p e.gtid) es ≡ before ++ AllCopied ∷ behind = cc in t)
+none_copied : (tables : List Picked) (s : ShardName) (p : Position) (sent : List Entry) (before behind : List Frame) → entry_frames tables s p sent ≡ before ++ AllCopied ∷ behind → ⊥
+none_copied tables s p [] [] behind h = cc
+none_copied tables s p [] (b ∷ before) behind h = cc
+none_copied tables s p (e ∷ es) [] behind h = cc
+none_copied tables s p (e ∷ es) (b ∷ before) behind h = none_copied tables s (added p e.gtid) es before behind (let t : entry_frames tables s (added p e.gtid) es ≡ before ++ AllCopied ∷ behind = cc in t)
 
-pub copies_sent : (s : ShardName) (p : Position) (sent : List Entry) → AllCopiedFollows (entry_frames s p sent)
-copies_sent s p sent before behind h = absurd (none_copied s p sent before behind h)
+pub copies_sent : (tables : List Picked) (s : ShardName) (p : Position) (sent : List Entry) → AllCopiedFollows (entry_frames tables s p sent)
+copies_sent tables s p sent before behind h = absurd (none_copied tables s p sent before behind h)
 
-pub last_sent : (s : ShardName) (p : Position) (sent : List Entry) → last_vector (vector_at s p) (entry_frames s p sent) ≡ vector_at s (position_after p sent)
-last_sent s p [] = refl
-last_sent s p (e ∷ es) = last_sent s (added p e.gtid) es
+pub last_sent : (tables : List Picked) (s : ShardName) (p : Position) (sent : List Entry) → last_vector (vector_at s p) (entry_frames tables s p sent) ≡ vector_at s (position_after p sent)
+last_sent tables s p [] = refl
+last_sent tables s p (e ∷ es) = last_sent tables s (added p e.gtid) es
 
 -- no entry is an own journal
 up_to_all : (s : ShardName) (es : List Entry) → AreNoJournals es → up_to_own s es ≡ es
@@ -126,7 +146,7 @@ none_first : (s : ShardName) (es : List Entry) → AreNoJournals es → first_ow
 none_first s [] h = refl
 none_first s (e ∷ es) h = ap (λ o. option_or o (first_own s es)) (none_own s e.work h.0) ∙ none_first s es h.1
 
-after_no_journals : (log : Log) (p : Position) → AreNoJournals log.entries → AreNoJournals (after log p)
+pub after_no_journals : (log : Log) (p : Position) → AreNoJournals log.entries → AreNoJournals (after log p)
 after_no_journals log p h = kept (λ e. IsNoJournal e.work) (λ e. not (has p e.gtid)) log.entries h
 
 -- so all entries that the position lacks are due, and nothing stops it

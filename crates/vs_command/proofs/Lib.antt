@@ -1,5 +1,5 @@
 pub mod SendLemmas
-pub mod BuiltLemmas
+pub mod SizeLemmas
 pub mod FitLemmas
 pub mod CauseLemmas
 pub mod LegalLemmas
@@ -11,6 +11,7 @@ pub mod PartLemmas
 pub mod RequestLemmas
 pub mod SaidLemmas
 pub mod DueLemmas
+pub mod AskedLemmas
 pub mod StageLemmas
 pub mod LineLemmas
 pub mod OutsideLemmas

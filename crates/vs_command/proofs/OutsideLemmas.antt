@@ -1,15 +1,17 @@
 -- What calls one after another leave of the tablets.
-use Rattle.std.proofs.Common.{◌≡◌, ℕ, ◌+◌, Bool, true, false, List, [], ◌∷◌, ◌++◌, Option, Some, None, refl, sym, ap, subst, ◌∙◌}
+use Rattle.std.proofs.Common.{◌≡◌, ◌≢◌, ℕ, ◌+◌, Bool, true, false, List, [], ◌∷◌, ◌++◌, Option, Some, None, refl, sym, ap, subst, ◌∙◌}
 use Rattle.std.specs.Prelude.{IfSome}
 use Rattle.vs_base.specs.declared.ShardName.{ShardName}
+use Rattle.vs_base.specs.declared.rule_text.RuleText.{RuleText}
+use Rattle.vs_filter.specs.Rules.{Fault, first_fault}
 use Rattle.vs_base.specs.Names.{same_name}
 use Rattle.vs_base.proofs.NameLemmas.{same_name-is}
 use Rattle.vs_outside.specs.Counts.{KeepsCounts, KeepsOthers}
-use Rattle.vs_outside.specs.Feeds.{GivesAllBack}
+use Rattle.vs_outside.specs.Feeds.{GivesAllBack, times}
 use Rattle.vs_outside.proofs.FeedLemmas.{gives_back-once}
 use Rattle.vs_command.specs.declared.start.Start.{Start}
 use Rattle.vs_command.specs.Outside.{KeepsName, KeepsUnasked}
-use Rattle.vs_command.specs.Requests.{Asks}
+use Rattle.vs_command.specs.Requests.{Asks, AsksBy}
 
 -- ---- of one call and the next
 
@@ -28,14 +30,22 @@ module _ {T : Type 0} (faults waits open_faults : T → ShardName → ℕ) where
 
   -- ---- of the names that an input asks for
 
-  pub unasked_others : (left : Option (List ℕ)) (name : ShardName) (start : Start) (a b : T) → IfSome left (λ input. Asks input name start) →
-      ((n : ShardName) → same_name name n ≡ false → KeepsName faults waits open_faults a b n) → IfSome left (KeepsUnasked faults waits open_faults a b)
-  unasked_others None name start a b asks kept = tt
-  unasked_others (Some input) name start a b asks kept = λ n none. by_test n none (same_name name n) refl
+  pub unasked_others : (left : Option (List ℕ)) (name : ShardName) (start : Start) (rules : List RuleText) (a b : T) → IfSome left (λ input. AsksBy input name start rules) →
+      ((n : ShardName) → same_name name n ≡ false → KeepsName faults waits open_faults a b n) → ((n : ShardName) → first_fault rules ≢ None → KeepsName faults waits open_faults a b n) →
+      IfSome left (KeepsUnasked faults waits open_faults a b)
+  unasked_others None name start rules a b asks kept unlawful = tt
+  unasked_others (Some input) name start rules a b asks kept unlawful = λ n none. by_test n none (same_name name n) refl (first_fault rules) refl
     where
-      by_test : (n : ShardName) → ((other : Start) → Asks input n other → ⊥) → (test : Bool) → same_name name n ≡ test → KeepsName faults waits open_faults a b n
-      by_test n none true is = absurd (none start (subst (λ m. Asks input m start) (same_name-is name n is) asks))
-      by_test n none false is = kept n is
+      by_test : (n : ShardName) → ((other : Start) (by : List RuleText) → Asks input n other by → ⊥) → (test : Bool) → same_name name n ≡ test → (fault : Option (ℕ × Fault)) → first_fault rules ≡ fault →
+          KeepsName faults waits open_faults a b n
+      by_test n none false is fault first = kept n is
+      by_test n none true is None first = absurd (none start rules (subst (λ m. AsksBy input m start rules) (same_name-is name n is) asks, first))
+      by_test n none true is (Some fault) first = unlawful n (λ h. let clash : ◌≡◌ {A = Option (ℕ × Fault)} (Some fault) None = sym first ∙ h in cc)
+
+  -- the counts stay where a call before kept them
+  pub keeps_built : (a b d : T) → KeepsCounts (faults a) (faults b) → KeepsCounts (waits a) (waits b) → KeepsCounts (open_faults a) (open_faults b) → (n : ShardName) →
+      KeepsName faults waits open_faults b d n → KeepsName faults waits open_faults a d n
+  keeps_built a b d kept_faults kept_waits kept_opens n later = keeps_then a b d n (keeps_pointed a b kept_faults kept_waits kept_opens n) later
 
   pub unasked_then : (left : Option (List ℕ)) (a b d : T) → ((n : ShardName) → KeepsName faults waits open_faults a b n) → IfSome left (KeepsUnasked faults waits open_faults b d) →
       IfSome left (KeepsUnasked faults waits open_faults a d)
@@ -50,3 +60,8 @@ pub back_returned : (before between now : List ShardName) (r s t : ShardName →
 back_returned before between now r s t name one kept same more others =
     subst (λ l. GivesAllBack before r l t) (sym (same ∙ one))
     (gives_back-once before r t name (more ∙ ap (λ n. n + 1) (kept name)) (λ n other. others n other ∙ kept n))
+
+-- nothing was opened or given back in the call before
+pub back_kept : (opened between now : List ShardName) (r s t : ShardName → ℕ) → between ≡ opened → KeepsCounts r s → GivesAllBack between s now t → GivesAllBack opened r now t
+back_kept opened between now r s t same kept back n =
+    ap (λ k. times n now + k) (sym (kept n)) ∙ back n ∙ ap (λ l. t n + times n l) same

@@ -16,13 +16,14 @@ use Rattle.vs_request.specs.declared.refusal.RequestRefusal.{RequestRefusal}
 use Rattle.vs_request.specs.declared.refusal.RequestRefusal.TheVariants as refusals
 use Rattle.vs_command.specs.declared.request.RequestEnd.TheVariants as ends
 use Rattle.vs_command.specs.declared.status.RequestFault.{RequestFault}
-use Rattle.vs_command.specs.declared.status.RequestFault.TheVariants.{Cut, TooLong, Message, NoShards, TooManyShards, BadName, BadPosition, NeedsShard, TooManyKeys, LongKey, TooManyRules, NotBuilt}
+use Rattle.vs_command.specs.declared.status.RequestFault.TheVariants.{Cut, TooLong, Message, NoShards, TooManyShards, BadName, BadPosition, NeedsShard, TooManyKeys, LongKey, TooManyRules, NotBuilt, BadPattern, PatternRefused, BadRule, Unbound}
 use Rattle.vs_request.specs.declared.request.Flags.{Flags}
 use Rattle.vs_request.specs.declared.request.Request.{Request}
 use Rattle.vs_request.specs.declared.request.Wanted.{Wanted}
 use Rattle.vs_base.specs.declared.ShardName.{ShardName}
+use Rattle.vs_base.specs.declared.rule_text.RuleText.{RuleText}
 use Rattle.vs_command.specs.declared.start.Start.{Start}
-use Rattle.vs_command.specs.Requests.{Asks, HasEnded, HasTaken, IsFaultOf, IsFaultOfMessage, IsRequestFrame, IsNotBuilt, IsPlain, IsUnbuilt, IsWithinFrame, SaysLength, TakesOf, end_of, entry_of, has_no_flags, no_flags}
+use Rattle.vs_command.specs.Requests.{AsksBy, HasEnded, HasTaken, IsFaultOf, IsFaultOfMessage, IsRequestFrame, IsNotBuilt, IsPlain, IsUnbuilt, IsWithinFrame, SaysLength, TakesOf, end_of, entry_of, has_no_flags, no_flags, rules_or_any}
 
 -- nothing taken
 pub TakesOf-none : (P : List ℕ → List ℕ → Type 0) (told : Option (List ℕ)) → ((rest : List ℕ) → told ≡ Some rest → P [] rest) → TakesOf told told P
@@ -138,25 +139,20 @@ one_of [] some few = absurd (omega (arith, some))
 one_of (x ∷ []) some few = (x, refl)
 one_of (x ∷ y ∷ xs) some few = absurd (omega (arith, few))
 
-some_of : {A : Type 0} (xs : List A) → false ≡ (length xs == 0) → xs ≢ []
-some_of [] h none = cc
-some_of (x ∷ xs) h none = cc
-
 pub none_of : {A : Type 0} (xs : List A) → true ≡ (length xs == 0) → xs ≡ []
 none_of [] h = refl
 none_of (x ∷ xs) h = absurd (omega (arith, eqb-true (length (x ∷ xs)) 0 (sym h)))
 
--- rules aren't built
-pub not_built_rules : (request : Request) → 1 ≤ length request.entries → length request.entries ≤ 1 → false ≡ (length request.rules == 0) → IsNotBuilt request 0
-not_built_rules request some few rules =
-    let one = one_of request.entries some few in
-    ◌⊎◌.inr (refl, one.0, one.1, ◌⊎◌.inr (◌⊎◌.inl (some_of request.rules rules)))
+-- where there are rules, they are those
+pub rules_or-some : (rules : List RuleText) → false ≡ (length rules == 0) → rules ≡ rules_or_any rules
+rules_or-some [] h = absurd (cc)
+rules_or-some (rule ∷ rules) h = refl
 
--- nor are flags
+-- flags aren't built
 pub not_built_flags : (request : Request) → 1 ≤ length request.entries → length request.entries ≤ 1 → false ≡ has_no_flags request.flags → IsNotBuilt request 0
 not_built_flags request some few flags =
     let one = one_of request.entries some few in
-    ◌⊎◌.inr (refl, one.0, one.1, ◌⊎◌.inr (◌⊎◌.inr (λ none. let it : false ≡ true = flags ∙ ap has_no_flags none in cc)))
+    ◌⊎◌.inr (refl, one.0, one.1, ◌⊎◌.inr (λ none. let it : false ≡ true = flags ∙ ap has_no_flags none in cc))
 
 -- nor is what the entry asks for
 pub not_built_entry : (request : Request) (wanted : Wanted) → request.entries ≡ wanted ∷ [] → IsUnbuilt wanted → IsNotBuilt request 0
@@ -183,14 +179,20 @@ no_flags_are flags h =
     are a b c d p q r t = cc
 
 -- the request asks for one shard and nothing else
-pub is_plain : (request : Request) (wanted : Wanted) (name : ShardName) (start : Start) → request.entries ≡ wanted ∷ [] → (wanted ≡ entry_of name start) × (name.shard ≢ []) →
-    true ≡ (length request.rules == 0) → true ≡ has_no_flags request.flags → IsPlain request name start
-is_plain request wanted name start one asked rules flags = record {
+pub is_plain : (request : Request) (wanted : Wanted) (name : ShardName) (start : Start) (rules : List RuleText) → request.entries ≡ wanted ∷ [] →
+    (wanted ≡ entry_of name start) × (name.shard ≢ []) × (rules ≡ request.rules) → true ≡ has_no_flags request.flags → IsPlain request name start (rules_or_any rules)
+is_plain request wanted name start rules one asked flags = record {
   entries = one ∙ ap (λ w. w ∷ []) asked.0;
   shard = asked.1;
-  rules = none_of request.rules rules;
+  rules_are = ap rules_or_any asked.2;
   flags = no_flags_are request.flags flags;
 }
+
+-- with the rule of a request without rules
+pub plain_whole : (request : Request) (name other : ShardName) (start from : Start) (rules whole : List RuleText) → IsPlain request name start (rules_or_any rules) →
+    (other ≡ name) × (from ≡ start) × (whole ≡ rules_or_any rules) → IsPlain request other from whole
+plain_whole request name other start from rules whole plain same =
+    subst (λ n. IsPlain request n from whole) (sym same.0) (subst (λ s. IsPlain request name s whole) (sym same.1) (subst (λ r. IsPlain request name start r) (sym same.2) plain))
 
 -- ---- what a message says
 
@@ -252,10 +254,10 @@ refused_message message (refusals.TooManyRules n) fault says is = let same : (To
 
 -- ---- what an input begins with
 
-pub asks_of : (before now : Option (List ℕ)) (m : List ℕ) (name : ShardName) (start : Start) →
-    TakesOf before now (λ taken left. (taken ≡ framed m) × IsWithinLimit m) → (request : Request) × Says m (Ok request) × IsPlain request name start → IfSome before (λ input. Asks input name start)
-asks_of before now m name start took says =
-    TakesOf-all (λ taken left. (taken ≡ framed m) × IsWithinLimit m) (λ input. Asks input name start) before now
+pub asks_of : (before now : Option (List ℕ)) (m : List ℕ) (name : ShardName) (start : Start) (rules : List RuleText) →
+    TakesOf before now (λ taken left. (taken ≡ framed m) × IsWithinLimit m) → (request : Request) × Says m (Ok request) × IsPlain request name start rules → IfSome before (λ input. AsksBy input name start rules)
+asks_of before now m name start rules took says =
+    TakesOf-all (λ taken left. (taken ≡ framed m) × IsWithinLimit m) (λ input. AsksBy input name start rules) before now
     (λ taken rest t. (says.0, (m, rest, (ap (λ l. l ++ rest) t.0, t.1), says.1), says.2)) took
 
 pub took_frame : (before now : Option (List ℕ)) (m : List ℕ) → TakesOf before now (λ taken left. (taken ≡ framed m) × IsWithinLimit m) → TakesOf before now (λ taken rest. IsRequestFrame taken)
@@ -274,6 +276,10 @@ begins_with input (TooManyKeys index) m rest begins is = (m, rest, begins, is)
 begins_with input (LongKey index) m rest begins is = (m, rest, begins, is)
 begins_with input (TooManyRules n) m rest begins is = (m, rest, begins, is)
 begins_with input (NotBuilt index) m rest begins is = (m, rest, begins, is)
+begins_with input (BadPattern index) m rest begins is = (m, rest, begins, is)
+begins_with input (PatternRefused index) m rest begins is = (m, rest, begins, is)
+begins_with input (BadRule index at) m rest begins is = (m, rest, begins, is)
+begins_with input (Unbound index why) m rest begins is = (m, rest, begins, is)
 
 taken_of : (fault : RequestFault) (m taken rest : List ℕ) → IsFaultOfMessage m fault → IsRequestFrame taken → HasTaken fault taken rest
 taken_of (Cut held) m taken rest is frame = absurd is
@@ -288,6 +294,10 @@ taken_of (TooManyKeys index) m taken rest is frame = frame
 taken_of (LongKey index) m taken rest is frame = frame
 taken_of (TooManyRules n) m taken rest is frame = frame
 taken_of (NotBuilt index) m taken rest is frame = frame
+taken_of (BadPattern index) m taken rest is frame = frame
+taken_of (PatternRefused index) m taken rest is frame = frame
+taken_of (BadRule index at) m taken rest is frame = frame
+taken_of (Unbound index why) m taken rest is frame = frame
 
 pub fault_of_message : (before now : Option (List ℕ)) (m : List ℕ) (fault : RequestFault) → TakesOf before now (λ taken left. (taken ≡ framed m) × IsWithinLimit m) → IsFaultOfMessage m fault →
     IfSome before (λ input. IsFaultOf input fault)
@@ -315,6 +325,10 @@ ended_so (TooManyKeys index) taken rest ended = absurd ended
 ended_so (LongKey index) taken rest ended = absurd ended
 ended_so (TooManyRules n) taken rest ended = absurd ended
 ended_so (NotBuilt index) taken rest ended = absurd ended
+ended_so (BadPattern index) taken rest ended = absurd ended
+ended_so (PatternRefused index) taken rest ended = absurd ended
+ended_so (BadRule index at) taken rest ended = absurd ended
+ended_so (Unbound index why) taken rest ended = absurd ended
 
 has_taken : (fault : RequestFault) (taken rest : List ℕ) → HasEnded fault taken rest → HasTaken fault taken rest
 has_taken (Cut held) taken rest ended = ended.2
@@ -329,6 +343,10 @@ has_taken (TooManyKeys index) taken rest ended = absurd ended
 has_taken (LongKey index) taken rest ended = absurd ended
 has_taken (TooManyRules n) taken rest ended = absurd ended
 has_taken (NotBuilt index) taken rest ended = absurd ended
+has_taken (BadPattern index) taken rest ended = absurd ended
+has_taken (PatternRefused index) taken rest ended = absurd ended
+has_taken (BadRule index at) taken rest ended = absurd ended
+has_taken (Unbound index why) taken rest ended = absurd ended
 
 -- no frame is there
 pub fault_of_frame : (before now : Option (List ℕ)) (fault : RequestFault) → TakesOf before now (HasEnded fault) → IfSome before (λ input. IsFaultOf input fault)

@@ -5,7 +5,8 @@ use Rattle.std.proofs.lemmas.List.{take_all}
 use Rattle.vs_base.specs.declared.ShardName.{ShardName}
 use Rattle.vs_base.specs.declared.Gtid.{Gtid}
 use Rattle.vs_base.specs.declared.Why.{Why}
-use Rattle.vs_base.specs.declared.Why.TheVariants.{NotBuilt}
+use Rattle.vs_base.specs.declared.Why.TheVariants.{TooLarge}
+use Rattle.vs_filter.specs.declared.bound.Picked.{Picked}
 use Rattle.vs_gtid.specs.declared.Entry.{Entry}
 use Rattle.vs_gtid.specs.Missing.{IsFirstMissing}
 use Rattle.vs_gtid.specs.Positions.{Position, IsCanonical, IsSubset}
@@ -21,12 +22,12 @@ use Rattle.vs_command.specs.declared.start.Start.{Start}
 use Rattle.vs_command.specs.declared.start.Start.TheVariants.{Current}
 use Rattle.vs_command.specs.declared.status.Status.{Status}
 use Rattle.vs_command.specs.declared.status.Status.TheVariants as statuses
-use Rattle.vs_command.specs.Built.{IsNextUnbuilt}
+use Rattle.vs_command.specs.Sizes.{IsNextOversized}
 use Rattle.vs_command.specs.Fetched.{entries_of, read_as}
 use Rattle.vs_command.specs.Sending.{AreSent, lacking, position_after}
-use Rattle.vs_command.specs.Streaming.{HasFault, HasLogCause, IsStart, IsStreamed, IsStreamedFrom, IsUnbuiltFromEnd}
+use Rattle.vs_command.specs.Streaming.{HasFault, HasLogCause, IsStart, IsStreamed, IsStreamedFrom}
 use Rattle.vs_log.specs.Laws.{FitAlong, HasNewGtids}
-use Rattle.vs_command.proofs.BuiltLemmas.{entries_of-take}
+use Rattle.vs_command.proofs.SizeLemmas.{entries_of-take}
 use Rattle.vs_command.proofs.FitLemmas.{fits_behind}
 use Rattle.vs_command.proofs.LegalLemmas.{after_all}
 
@@ -35,24 +36,22 @@ pub record StartsAt (log : Log) (start : Start) (whole : Type 0) (p : Position) 
   pub is_start : IsStart log start whole p
   pub canonical : IsCanonical p
 
-streamed_from : (stands : Gtid → ℕ → Type 0) (s : ShardName) (log : Log) (start : Start) (whole : Type 0) (p : Position) (status : Status) (w : List ℕ) →
-    StartsAt log start whole p → IsStreamed stands s log start p status w → IsStreamedFrom stands s log start whole status w
-streamed_from stands s log start whole p status w at streamed = ◌⊎◌.inr (p, at.is_start, at.canonical, streamed)
+streamed_from : (stands : Gtid → ℕ → Type 0) (tables : List Picked) (s : ShardName) (log : Log) (start : Start) (whole : Type 0) (p : Position) (status : Status) (w : List ℕ) →
+    StartsAt log start whole p → IsStreamed stands tables s log p status w → IsStreamedFrom stands tables s log start whole status w
+streamed_from stands tables s log start whole p status w at streamed = ◌⊎◌.inr (p, at.is_start, at.canonical, streamed)
 
 -- memory ran out before the start was known
-pub Writes-unstarted : (stands : Gtid → ℕ → Type 0) (s : ShardName) (log : Log) (start : Start) (whole : Type 0) (told : Option (List ℕ)) →
-    Writes told told (IsStreamedFrom stands s log start whole statuses.Memory)
-Writes-unstarted stands s log start whole told = Writes-none (IsStreamedFrom stands s log start whole statuses.Memory) told (◌⊎◌.inl (refl, refl))
+pub Writes-unstarted : (stands : Gtid → ℕ → Type 0) (tables : List Picked) (s : ShardName) (log : Log) (start : Start) (whole : Type 0) (told : Option (List ℕ)) →
+    Writes told told (IsStreamedFrom stands tables s log start whole statuses.Memory)
+Writes-unstarted stands tables s log start whole told = Writes-none (IsStreamedFrom stands tables s log start whole statuses.Memory) told (◌⊎◌.inl (refl, refl))
 
 -- nothing was sent
-none_streamed : (stands : Gtid → ℕ → Type 0) (s : ShardName) (log : Log) (start : Start) (p : Position) (status : Status) → HasLogCause stands s log start p [] (after log p) status →
-    IsStreamed stands s log start p status []
-none_streamed stands s log start p status cause = record {
+none_streamed : (stands : Gtid → ℕ → Type 0) (tables : List Picked) (s : ShardName) (log : Log) (p : Position) (status : Status) → HasLogCause stands tables s log p [] (after log p) status →
+    IsStreamed stands tables s log p status []
+none_streamed stands tables s log p status cause = record {
   sent = [];
   rest = after log p;
   are = refl;
-  bytes = [];
-  spelled = refl;
   canonical = tt;
   prefix = IsPrefixOf-refl [];
   whole = λ _. refl;
@@ -61,59 +60,49 @@ none_streamed stands s log start p status cause = record {
 }
 
 -- the log begins behind the start
-pub Writes-purged : (stands : Gtid → ℕ → Type 0) (s : ShardName) (log : Log) (start : Start) (whole : Type 0) (p : Position) (missing : Gtid) (told : Option (List ℕ)) →
-    StartsAt log start whole p → IsFirstMissing log.base p missing → Writes told told (IsStreamedFrom stands s log start whole (statuses.Purged s missing))
-Writes-purged stands s log start whole p missing told at first =
-    Writes-none (IsStreamedFrom stands s log start whole (statuses.Purged s missing)) told
-    (streamed_from stands s log start whole p (statuses.Purged s missing) [] at (none_streamed stands s log start p (statuses.Purged s missing) (refl, first, refl)))
-
--- from the log's end, an entry of it isn't built
-pub Writes-unbuilt_from_end : (stands : Gtid → ℕ → Type 0) (s : ShardName) (log : Log) (start : Start) (whole : Type 0) (p : Position) (offset : ℕ) (told : Option (List ℕ)) →
-    StartsAt log start whole p → IsUnbuiltFromEnd stands log start offset → Writes told told (IsStreamedFrom stands s log start whole (statuses.BadLog s offset NotBuilt))
-Writes-unbuilt_from_end stands s log start whole p offset told at unbuilt =
-    Writes-none (IsStreamedFrom stands s log start whole (statuses.BadLog s offset NotBuilt)) told
-    (streamed_from stands s log start whole p (statuses.BadLog s offset NotBuilt) [] at
-    (none_streamed stands s log start p (statuses.BadLog s offset NotBuilt) (refl, ◌⊎◌.inr (refl, ◌⊎◌.inr (unbuilt, refl)))))
+pub Writes-purged : (stands : Gtid → ℕ → Type 0) (tables : List Picked) (s : ShardName) (log : Log) (start : Start) (whole : Type 0) (p : Position) (missing : Gtid) (told : Option (List ℕ)) →
+    StartsAt log start whole p → IsFirstMissing log.base p missing → Writes told told (IsStreamedFrom stands tables s log start whole (statuses.Purged s missing))
+Writes-purged stands tables s log start whole p missing told at first =
+    Writes-none (IsStreamedFrom stands tables s log start whole (statuses.Purged s missing)) told
+    (streamed_from stands tables s log start whole p (statuses.Purged s missing) [] at (none_streamed stands tables s log p (statuses.Purged s missing) (refl, first, refl)))
 
 -- what a refusal of the sending says of the log
 abbrev IsRefusalOf : ShardName → SendEnd → Status → Type 0
 IsRefusalOf s ends.Memory status = status ≡ statuses.Memory
 IsRefusalOf s ends.LinkFault status = status ≡ statuses.LinkFault
 IsRefusalOf s ends.PositionTooLarge status = status ≡ statuses.PositionTooLarge s
-IsRefusalOf s (ends.NotBuilt offset) status = status ≡ statuses.BadLog s offset NotBuilt
+IsRefusalOf s (ends.TooLarge offset bytes) status = status ≡ statuses.BadLog s offset (TooLarge bytes)
 
-refused_cause : (stands : Gtid → ℕ → Type 0) (s : ShardName) (log : Log) (start : Start) (p : Position) (entries : List Entry) (end : SendEnd) (status : Status) (w : List ℕ) →
-    IsSubset log.base p → IsRefusalOf s end status → (sent : AreSent stands s p entries (Err end) w) → HasLogCause stands s log start p sent.sent sent.rest status
-refused_cause stands s log start p entries ends.Memory status w base is sent = subst (λ x. HasLogCause stands s log start p sent.sent sent.rest x) (sym is) tt
-refused_cause stands s log start p entries ends.LinkFault status w base is sent = subst (λ x. HasLogCause stands s log start p sent.sent sent.rest x) (sym is) base
-refused_cause stands s log start p entries ends.PositionTooLarge status w base is sent =
-    subst (λ x. HasLogCause stands s log start p sent.sent sent.rest x) (sym is) (refl, sent.large refl, base)
-refused_cause stands s log start p entries (ends.NotBuilt offset) status w base is sent =
-    subst (λ x. HasLogCause stands s log start p sent.sent sent.rest x) (sym is) (refl, ◌⊎◌.inr (refl, ◌⊎◌.inl (sent.unbuilt offset refl, base)))
+refused_cause : (stands : Gtid → ℕ → Type 0) (tables : List Picked) (s : ShardName) (log : Log) (p : Position) (entries : List Entry) (end : SendEnd) (status : Status) (w : List ℕ) →
+    IsSubset log.base p → IsRefusalOf s end status → (sent : AreSent stands tables s p entries (Err end) w) → HasLogCause stands tables s log p sent.sent sent.rest status
+refused_cause stands tables s log p entries ends.Memory status w base is sent = subst (λ x. HasLogCause stands tables s log p sent.sent sent.rest x) (sym is) tt
+refused_cause stands tables s log p entries ends.LinkFault status w base is sent = subst (λ x. HasLogCause stands tables s log p sent.sent sent.rest x) (sym is) base
+refused_cause stands tables s log p entries ends.PositionTooLarge status w base is sent =
+    subst (λ x. HasLogCause stands tables s log p sent.sent sent.rest x) (sym is) (refl, sent.large refl, base)
+refused_cause stands tables s log p entries (ends.TooLarge offset bytes) status w base is sent =
+    subst (λ x. HasLogCause stands tables s log p sent.sent sent.rest x) (sym is) (refl, ◌⊎◌.inr (bytes, refl, sent.oversized offset bytes refl, base))
 
 refused_link : (s : ShardName) (end : SendEnd) (status : Status) → IsRefusalOf s end status → status ≢ statuses.LinkFault → ◌≢◌ {A = SendEnd} end ends.LinkFault
 refused_link s ends.Memory status is other h = cc
 refused_link s ends.LinkFault status is other h = other is
 refused_link s ends.PositionTooLarge status is other h = cc
-refused_link s (ends.NotBuilt offset) status is other h = cc
+refused_link s (ends.TooLarge offset bytes) status is other h = cc
 
 -- the entries were sent up to a refusal
-pub Writes-refused : (stands : Gtid → ℕ → Type 0) (s : ShardName) (log : Log) (start : Start) (whole : Type 0) (p : Position) (entries : List Entry) (end : SendEnd) (status : Status) (before now : Option (List ℕ)) →
+pub Writes-refused : (stands : Gtid → ℕ → Type 0) (tables : List Picked) (s : ShardName) (log : Log) (start : Start) (whole : Type 0) (p : Position) (entries : List Entry) (end : SendEnd) (status : Status) (before now : Option (List ℕ)) →
     StartsAt log start whole p → IsSubset log.base p → entries ≡ log.entries → IsRefusalOf s end status →
-    Writes before now (λ w. AreSent stands s p (lacking p entries) (Err end) w) → Writes before now (IsStreamedFrom stands s log start whole status)
-Writes-refused stands s log start whole p entries end status before now at base all refusal wrote =
-    Writes-weaken (λ w. AreSent stands s p (lacking p entries) (Err end) w) (IsStreamedFrom stands s log start whole status) before now
-    (λ w sent. streamed_from stands s log start whole p status w at (record {
+    Writes before now (λ w. AreSent stands tables s p (lacking p entries) (Err end) w) → Writes before now (IsStreamedFrom stands tables s log start whole status)
+Writes-refused stands tables s log start whole p entries end status before now at base all refusal wrote =
+    Writes-weaken (λ w. AreSent stands tables s p (lacking p entries) (Err end) w) (IsStreamedFrom stands tables s log start whole status) before now
+    (λ w sent. streamed_from stands tables s log start whole p status w at (record {
       sent = sent.sent;
       rest = sent.rest;
       are = ap (λ es. lacking p es) (sym all) ∙ sent.are;
-      bytes = sent.bytes;
-      spelled = sent.spelled;
       canonical = sent.canonical;
       prefix = sent.prefix;
       whole = λ other. sent.whole (λ h. refused_link s end status refusal other (let l : ◌≡◌ {A = SendEnd} end ends.LinkFault = cc in l));
       base = ◌⊎◌.inr base;
-      cause = refused_cause stands s log start p (lacking p entries) end status w base refusal sent;
+      cause = refused_cause stands tables s log p (lacking p entries) end status w base refusal sent;
     })) wrote
 
 -- what the end of a log says, where all was sent
@@ -122,40 +111,38 @@ IsEndOf s log statuses.Done = log.fault ≡ None
 IsEndOf s log (statuses.BadLog name offset why) = (name ≡ s) × (log.fault ≡ Some (offset, why))
 IsEndOf s log status = ⊥
 
-ended_cause : (stands : Gtid → ℕ → Type 0) (s : ShardName) (log : Log) (start : Start) (p : Position) (sent rest : List Entry) (status : Status) → IsSubset log.base p → rest ≡ [] → IsEndOf s log status →
-    HasLogCause stands s log start p sent rest status
-ended_cause stands s log start p sent rest statuses.Done base none end = (none, base, end)
-ended_cause stands s log start p sent rest (statuses.BadLog name offset why) base none end = (end.0, ◌⊎◌.inl (end.1, none, base))
-ended_cause stands s log start p sent rest statuses.Memory base none end = absurd end
-ended_cause stands s log start p sent rest statuses.Usage base none end = absurd end
-ended_cause stands s log start p sent rest (statuses.BadFrame number frame_why) base none end = absurd end
-ended_cause stands s log start p sent rest (statuses.Request fault) base none end = absurd end
-ended_cause stands s log start p sent rest (statuses.UnknownShard name) base none end = absurd end
-ended_cause stands s log start p sent rest (statuses.Purged name missing) base none end = absurd end
-ended_cause stands s log start p sent rest (statuses.FeedFault name) base none end = absurd end
-ended_cause stands s log start p sent rest statuses.LinkFault base none end = absurd end
-ended_cause stands s log start p sent rest statuses.InputFault base none end = absurd end
-ended_cause stands s log start p sent rest (statuses.OpenFault name) base none end = absurd end
-ended_cause stands s log start p sent rest (statuses.PositionTooLarge name) base none end = absurd end
-ended_cause stands s log start p sent rest (statuses.BadSchema name line) base none end = absurd end
+ended_cause : (stands : Gtid → ℕ → Type 0) (tables : List Picked) (s : ShardName) (log : Log) (p : Position) (sent rest : List Entry) (status : Status) → IsSubset log.base p → rest ≡ [] → IsEndOf s log status →
+    HasLogCause stands tables s log p sent rest status
+ended_cause stands tables s log p sent rest statuses.Done base none end = (none, base, end)
+ended_cause stands tables s log p sent rest (statuses.BadLog name offset why) base none end = (end.0, ◌⊎◌.inl (end.1, none, base))
+ended_cause stands tables s log p sent rest statuses.Memory base none end = absurd end
+ended_cause stands tables s log p sent rest statuses.Usage base none end = absurd end
+ended_cause stands tables s log p sent rest (statuses.BadFrame number frame_why) base none end = absurd end
+ended_cause stands tables s log p sent rest (statuses.Request fault) base none end = absurd end
+ended_cause stands tables s log p sent rest (statuses.UnknownShard name) base none end = absurd end
+ended_cause stands tables s log p sent rest (statuses.Purged name missing) base none end = absurd end
+ended_cause stands tables s log p sent rest (statuses.FeedFault name) base none end = absurd end
+ended_cause stands tables s log p sent rest statuses.LinkFault base none end = absurd end
+ended_cause stands tables s log p sent rest statuses.InputFault base none end = absurd end
+ended_cause stands tables s log p sent rest (statuses.OpenFault name) base none end = absurd end
+ended_cause stands tables s log p sent rest (statuses.PositionTooLarge name) base none end = absurd end
+ended_cause stands tables s log p sent rest (statuses.BadSchema name line) base none end = absurd end
 
 -- all entries were sent
-pub Writes-ended : (stands : Gtid → ℕ → Type 0) (s : ShardName) (log : Log) (start : Start) (whole : Type 0) (p : Position) (entries : List Entry) (status : Status) (before now : Option (List ℕ)) →
+pub Writes-ended : (stands : Gtid → ℕ → Type 0) (tables : List Picked) (s : ShardName) (log : Log) (start : Start) (whole : Type 0) (p : Position) (entries : List Entry) (status : Status) (before now : Option (List ℕ)) →
     StartsAt log start whole p → IsSubset log.base p → entries ≡ log.entries → IsEndOf s log status →
-    Writes before now (λ w. AreSent stands s p (lacking p entries) (Ok tt) w) → Writes before now (IsStreamedFrom stands s log start whole status)
-Writes-ended stands s log start whole p entries status before now at base all end wrote =
-    Writes-weaken (λ w. AreSent stands s p (lacking p entries) (Ok tt) w) (IsStreamedFrom stands s log start whole status) before now
-    (λ w sent. streamed_from stands s log start whole p status w at (record {
+    Writes before now (λ w. AreSent stands tables s p (lacking p entries) (Ok tt) w) → Writes before now (IsStreamedFrom stands tables s log start whole status)
+Writes-ended stands tables s log start whole p entries status before now at base all end wrote =
+    Writes-weaken (λ w. AreSent stands tables s p (lacking p entries) (Ok tt) w) (IsStreamedFrom stands tables s log start whole status) before now
+    (λ w sent. streamed_from stands tables s log start whole p status w at (record {
       sent = sent.sent;
       rest = sent.rest;
       are = ap (λ es. lacking p es) (sym all) ∙ sent.are;
-      bytes = sent.bytes;
-      spelled = sent.spelled;
       canonical = sent.canonical;
       prefix = sent.prefix;
       whole = λ _. sent.whole (λ h. cc);
       base = ◌⊎◌.inr base;
-      cause = ended_cause stands s log start p sent.sent sent.rest status base sent.all end;
+      cause = ended_cause stands tables s log p sent.sent sent.rest status base sent.all end;
     })) wrote
 
 -- a start behind the first entries is one from the end
@@ -180,38 +167,36 @@ fits_at_end f placed count (Err e) new all is = tt
 
 -- ---- the same, by what is said of where GTID events stand
 
-HasFault-weaken : (P Q : Gtid → ℕ → Type 0) (log : Log) (start : Start) (p : Position) (sent rest : List Entry) (offset : ℕ) (why : Why) → ((g : Gtid) (at : ℕ) → P g at → Q g at) →
-    HasFault P log start p sent rest offset why → HasFault Q log start p sent rest offset why
-HasFault-weaken P Q log start p sent rest offset why f (◌⊎◌.inl own) = ◌⊎◌.inl own
-HasFault-weaken P Q log start p sent rest offset why f (◌⊎◌.inr (not, ◌⊎◌.inl (next, base))) = ◌⊎◌.inr (not, ◌⊎◌.inl (go rest next, base))
+HasFault-weaken : (P Q : Gtid → ℕ → Type 0) (tables : List Picked) (s : ShardName) (log : Log) (p : Position) (rest : List Entry) (offset : ℕ) (why : Why) → ((g : Gtid) (at : ℕ) → P g at → Q g at) →
+    HasFault P tables s log p rest offset why → HasFault Q tables s log p rest offset why
+HasFault-weaken P Q tables s log p rest offset why f (◌⊎◌.inl own) = ◌⊎◌.inl own
+HasFault-weaken P Q tables s log p rest offset why f (◌⊎◌.inr (bytes, not, next, base)) = ◌⊎◌.inr (bytes, not, go rest next, base)
   where
-    go : (rest : List Entry) → IsNextUnbuilt P rest offset → IsNextUnbuilt Q rest offset
+    go : (rest : List Entry) → IsNextOversized P tables s rest offset bytes → IsNextOversized Q tables s rest offset bytes
     go [] h = absurd h
-    go (e ∷ rest) h = (h.0, f e.gtid offset h.1)
-HasFault-weaken P Q log start p sent rest offset why f (◌⊎◌.inr (not, ◌⊎◌.inr ((current, (e, first, there)), none))) =
-    ◌⊎◌.inr (not, ◌⊎◌.inr ((current, (e, first, f e.gtid offset there)), none))
+    go (e ∷ rest) h = (f e.gtid offset h.0, h.1)
 
-HasLogCause-weaken : (P Q : Gtid → ℕ → Type 0) (s : ShardName) (log : Log) (start : Start) (p : Position) (sent rest : List Entry) (status : Status) → ((g : Gtid) (at : ℕ) → P g at → Q g at) →
-    HasLogCause P s log start p sent rest status → HasLogCause Q s log start p sent rest status
-HasLogCause-weaken P Q s log start p sent rest (statuses.BadLog name offset why) f cause = (cause.0, HasFault-weaken P Q log start p sent rest offset why f cause.1)
-HasLogCause-weaken P Q s log start p sent rest statuses.Done f cause = cause
-HasLogCause-weaken P Q s log start p sent rest statuses.Memory f cause = cause
-HasLogCause-weaken P Q s log start p sent rest statuses.Usage f cause = cause
-HasLogCause-weaken P Q s log start p sent rest (statuses.BadFrame number frame_why) f cause = cause
-HasLogCause-weaken P Q s log start p sent rest (statuses.Request fault) f cause = cause
-HasLogCause-weaken P Q s log start p sent rest (statuses.UnknownShard name) f cause = cause
-HasLogCause-weaken P Q s log start p sent rest (statuses.Purged name missing) f cause = cause
-HasLogCause-weaken P Q s log start p sent rest (statuses.FeedFault name) f cause = cause
-HasLogCause-weaken P Q s log start p sent rest statuses.LinkFault f cause = cause
-HasLogCause-weaken P Q s log start p sent rest statuses.InputFault f cause = cause
-HasLogCause-weaken P Q s log start p sent rest (statuses.OpenFault name) f cause = cause
-HasLogCause-weaken P Q s log start p sent rest (statuses.PositionTooLarge name) f cause = cause
-HasLogCause-weaken P Q s log start p sent rest (statuses.BadSchema name line) f cause = cause
+HasLogCause-weaken : (P Q : Gtid → ℕ → Type 0) (tables : List Picked) (s : ShardName) (log : Log) (p : Position) (sent rest : List Entry) (status : Status) → ((g : Gtid) (at : ℕ) → P g at → Q g at) →
+    HasLogCause P tables s log p sent rest status → HasLogCause Q tables s log p sent rest status
+HasLogCause-weaken P Q tables s log p sent rest (statuses.BadLog name offset why) f cause = (cause.0, HasFault-weaken P Q tables s log p rest offset why f cause.1)
+HasLogCause-weaken P Q tables s log p sent rest statuses.Done f cause = cause
+HasLogCause-weaken P Q tables s log p sent rest statuses.Memory f cause = cause
+HasLogCause-weaken P Q tables s log p sent rest statuses.Usage f cause = cause
+HasLogCause-weaken P Q tables s log p sent rest (statuses.BadFrame number frame_why) f cause = cause
+HasLogCause-weaken P Q tables s log p sent rest (statuses.Request fault) f cause = cause
+HasLogCause-weaken P Q tables s log p sent rest (statuses.UnknownShard name) f cause = cause
+HasLogCause-weaken P Q tables s log p sent rest (statuses.Purged name missing) f cause = cause
+HasLogCause-weaken P Q tables s log p sent rest (statuses.FeedFault name) f cause = cause
+HasLogCause-weaken P Q tables s log p sent rest statuses.LinkFault f cause = cause
+HasLogCause-weaken P Q tables s log p sent rest statuses.InputFault f cause = cause
+HasLogCause-weaken P Q tables s log p sent rest (statuses.OpenFault name) f cause = cause
+HasLogCause-weaken P Q tables s log p sent rest (statuses.PositionTooLarge name) f cause = cause
+HasLogCause-weaken P Q tables s log p sent rest (statuses.BadSchema name line) f cause = cause
 
-pub IsStreamedFrom-weaken : (P Q : Gtid → ℕ → Type 0) (s : ShardName) (log : Log) (start : Start) (whole : Type 0) (status : Status) (w : List ℕ) → ((g : Gtid) (at : ℕ) → P g at → Q g at) →
-    IsStreamedFrom P s log start whole status w → IsStreamedFrom Q s log start whole status w
-IsStreamedFrom-weaken P Q s log start whole status w f (◌⊎◌.inl none) = ◌⊎◌.inl none
-IsStreamedFrom-weaken P Q s log start whole status w f (◌⊎◌.inr (p, starts, canonical, streamed)) = ◌⊎◌.inr (
+pub IsStreamedFrom-weaken : (P Q : Gtid → ℕ → Type 0) (tables : List Picked) (s : ShardName) (log : Log) (start : Start) (whole : Type 0) (status : Status) (w : List ℕ) → ((g : Gtid) (at : ℕ) → P g at → Q g at) →
+    IsStreamedFrom P tables s log start whole status w → IsStreamedFrom Q tables s log start whole status w
+IsStreamedFrom-weaken P Q tables s log start whole status w f (◌⊎◌.inl none) = ◌⊎◌.inl none
+IsStreamedFrom-weaken P Q tables s log start whole status w f (◌⊎◌.inr (p, starts, canonical, streamed)) = ◌⊎◌.inr (
   p,
   starts,
   canonical,
@@ -219,12 +204,10 @@ IsStreamedFrom-weaken P Q s log start whole status w f (◌⊎◌.inr (p, starts
     sent = streamed.sent;
     rest = streamed.rest;
     are = streamed.are;
-    bytes = streamed.bytes;
-    spelled = streamed.spelled;
     canonical = streamed.canonical;
     prefix = streamed.prefix;
     whole = streamed.whole;
     base = streamed.base;
-    cause = HasLogCause-weaken P Q s log start p streamed.sent streamed.rest status f streamed.cause;
+    cause = HasLogCause-weaken P Q tables s log p streamed.sent streamed.rest status f streamed.cause;
   },
 )

@@ -10,6 +10,8 @@ use Rattle.vs_gtid.specs.Logs.{Log}
 use Rattle.vs_outside.specs.Clusters.{Shard}
 use Rattle.vs_schema.specs.declared.schema.Schema.{Schema}
 use Rattle.vs_schema.specs.Rules.{schema_of}
+use Rattle.vs_filter.specs.Rules.{Meant, first_unbound, picked_by}
+use Rattle.vs_filter.specs.declared.bound.Picked.{Picked}
 use Rattle.vs_log.specs.Productions.{StandsAt}
 use Rattle.vs_entries.specs.Pieces.{Fed, log_fed, rules_fed}
 use Rattle.vs_command.specs.declared.fetched.Fetched.{Fetched}
@@ -60,9 +62,11 @@ abbrev pub IsOfShard : Option Shard → List ℕ → List ℕ → Type 0
 IsOfShard None text bytes = ⊥
 IsOfShard (Some shard) text bytes = (text ≡ shard.schema) × (bytes ≡ shard.log)
 
--- What was fetched of a shard with this schema text, which reads, and these bytes.
-pub record IsFetchedOf (s : ShardName) (text bytes : List ℕ) (f : Fetched) : Type 0 where
+-- What was fetched of a shard with this schema text, which reads, and to which the rules bind, and these bytes; and the tables that are picked.
+pub record IsFetchedOf (s : ShardName) (rules : List Meant) (text bytes : List ℕ) (f : Fetched) (tables : List Picked) : Type 0 where
   pub schema : Schema
   pub reads : schema_of text ≡ Ok schema
+  pub binds : first_unbound rules schema.tables ≡ None
+  pub picks : tables ≡ picked_by rules schema.tables
   pub log : read_as f ≡ shard_log s text bytes
   pub places : ArePlaced (shard_places s text bytes) f.entries

@@ -4,6 +4,7 @@ use Rattle.vs_log.specs.Laws.{AlwaysNewGtids, AlwaysOnePlace}
 use Rattle.vs_entries.specs.Laws.{NeverReadsJournals}
 use Rattle.vs_frame.specs.Laws.{HasOneFrame, HasOneLength, PartIsNoFrame, PartIsNotTooLong, TooLongIsNoFrame}
 use Rattle.vs_request.specs.Laws.{SaysOneThing}
+use Rattle.vs_render.specs.Laws.{BodiesMakeFrames}
 use Rattle.vs_model.specs.Laws.{DueGoesOn, StepsAreLegal, StopStays, TransactionsAreSteps}
 
 pub record Laws : Type 0 where
@@ -20,3 +21,4 @@ pub record Laws : Type 0 where
   pub too_long : TooLongIsNoFrame
   pub one_length : HasOneLength
   pub one_frame : HasOneFrame
+  pub bodies : BodiesMakeFrames

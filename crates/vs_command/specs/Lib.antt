@@ -1,7 +1,6 @@
-pub mod Spelling
 pub mod Requests
 pub mod Outside
-pub mod Built
+pub mod Sizes
 pub mod Sending
 pub mod Streaming
 pub mod Words

@@ -1,6 +1,7 @@
 -- What a call leaves of the tablets that it works on.
 use Rattle.std.specs.Prelude.{◌≡◌, ℕ, Bool, List, Option}
 use Rattle.vs_base.specs.declared.ShardName.{ShardName}
+use Rattle.vs_base.specs.declared.rule_text.RuleText.{RuleText}
 use Rattle.vs_outside.specs.Clusters.{ClusterBytes}
 use Rattle.vs_outside.specs.Counts.{NoneFell}
 use Rattle.vs_command.specs.declared.start.Start.{Start}
@@ -21,6 +22,6 @@ pub record KeepsName {T : Type 0} (faults waits open_faults : T → ShardName �
   pub same_waits : waits new n ≡ waits old n
   pub same_open_faults : open_faults new n ≡ open_faults old n
 
--- the counts of names that the input doesn't ask for stayed
+-- the counts of names that the input doesn't ask for, by rules without a fault, stayed
 abbrev pub KeepsUnasked : {T : Type 0} → (T → ShardName → ℕ) → (T → ShardName → ℕ) → (T → ShardName → ℕ) → T → T → List ℕ → Type 0
-KeepsUnasked faults waits open_faults old new input = (n : ShardName) → ((start : Start) → Asks input n start → ⊥) → KeepsName faults waits open_faults old new n
+KeepsUnasked faults waits open_faults old new input = (n : ShardName) → ((start : Start) (rules : List RuleText) → Asks input n start rules → ⊥) → KeepsName faults waits open_faults old new n

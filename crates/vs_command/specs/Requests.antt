@@ -1,8 +1,11 @@
 -- The frame that asks for a stream, at the front of the input, and what is wrong with an input.
-use Rattle.std.specs.Prelude.{◌≡◌, ◌≢◌, ◌≤◌, ◌<◌, ◌+◌, ◌^◌, ◌⊎◌, ℕ, Bool, false, ◌&&◌, not, nat_eq, List, [], ◌∷◌, ◌++◌, length, Option, Some, None, Result, Ok, Err}
+use Rattle.std.specs.Prelude.{◌≡◌, ◌≢◌, ◌≤◌, ◌<◌, ◌+◌, ◌^◌, ◌⊎◌, ℕ, Bool, false, ◌&&◌, not, nat_eq, List, [], ◌∷◌, ◌++◌, codes, length, Option, Some, None, Result, Ok, Err}
 use Rattle.std.specs.Int.{w32, to_be_bytes}
 use Rattle.vs_base.specs.Limits.{most_message}
 use Rattle.vs_base.specs.declared.ShardName.{ShardName}
+use Rattle.vs_base.specs.declared.rule_text.RuleText.{RuleText}
+use Rattle.vs_filter.specs.Causes.{FaultIs, HasNoPattern, HasPatternAt}
+use Rattle.vs_filter.specs.Rules.{Fault, NoPattern, NoSelect, first_fault}
 use Rattle.vs_base.specs.Frames.{framed}
 use Rattle.vs_frame.specs.Frames.{BeginsWithFrame, IsPart, IsTooLong, IsWithinLimit}
 use Rattle.vs_request.specs.Requests.{Says}
@@ -18,7 +21,7 @@ use Rattle.vs_command.specs.declared.request.RequestEnd.TheVariants as ends
 use Rattle.vs_command.specs.declared.start.Start.{Start}
 use Rattle.vs_command.specs.declared.start.Start.TheVariants.{At, Current}
 use Rattle.vs_command.specs.declared.status.RequestFault.{RequestFault}
-use Rattle.vs_command.specs.declared.status.RequestFault.TheVariants.{Cut, TooLong, Message, NoShards, TooManyShards, BadName, BadPosition, NeedsShard, TooManyKeys, LongKey, TooManyRules, NotBuilt}
+use Rattle.vs_command.specs.declared.status.RequestFault.TheVariants.{Cut, TooLong, Message, NoShards, TooManyShards, BadName, BadPosition, NeedsShard, TooManyKeys, LongKey, TooManyRules, NotBuilt, BadPattern, PatternRefused, BadRule, Unbound}
 
 -- What was read of a source is the front of what it had left, and the rest is left; P says more of both.
 abbrev pub TakesOf : Option (List ℕ) → Option (List ℕ) → (List ℕ → List ℕ → Type 0) → Type 0
@@ -41,28 +44,54 @@ start_of Current = at.Current
 abbrev pub entry_of : ShardName → Start → Wanted
 entry_of name start = record { keyspace = name.keyspace; shard = name.shard; start = start_of start; last_key = None }
 
--- The request asks for this one shard from this start, and for nothing else.
-pub record IsPlain (request : Request) (name : ShardName) (start : Start) : Type 0 where
+-- the rule of a request without rules: all rows of all tables
+abbrev pub any_rule : RuleText
+any_rule = record { pattern = codes "/.*"; filter = [] }
+
+-- the rules of a request, where it has some
+abbrev pub rules_or_any : List RuleText → List RuleText
+rules_or_any [] = any_rule ∷ []
+rules_or_any (rule ∷ rules) = rule ∷ rules
+
+-- The request asks for this one shard from this start by these rules, and for nothing else.
+pub record IsPlain (request : Request) (name : ShardName) (start : Start) (rules : List RuleText) : Type 0 where
   pub entries : request.entries ≡ entry_of name start ∷ []
   pub shard : name.shard ≢ []
-  pub rules : request.rules ≡ []
+  pub rules_are : rules ≡ rules_or_any request.rules
   pub flags : request.flags ≡ no_flags
 
 -- the entry asks for a copy, for all shards of a keyspace, or names a last key
 abbrev pub IsUnbuilt : Wanted → Type 0
 IsUnbuilt wanted = (wanted.start ≡ at.Fresh) ⊎ ((wanted.shard ≡ []) ⊎ (wanted.last_key ≢ None))
 
--- What of a request this release doesn't do: more entries than one; or, at the one entry, something that it asks for, rules or flags.
+-- What of a request this release doesn't do: more entries than one; or, at the one entry, something that it asks for, or flags.
 abbrev pub IsNotBuilt : Request → ℕ → Type 0
 IsNotBuilt request index =
     ((index ≡ 1) × (2 ≤ length request.entries))
-    ⊎ ((index ≡ 0) × (wanted : Wanted) × (request.entries ≡ wanted ∷ []) × (IsUnbuilt wanted ⊎ ((request.rules ≢ []) ⊎ (request.flags ≢ no_flags))))
+    ⊎ ((index ≡ 0) × (wanted : Wanted) × (request.entries ≡ wanted ∷ []) × (IsUnbuilt wanted ⊎ (request.flags ≢ no_flags)))
 
--- The input begins with a frame that asks for this shard, from this start.
-abbrev pub Asks : List ℕ → ShardName → Start → Type 0
-Asks input name start = (request : Request) × BeginsWithRequest input (Ok request) × IsPlain request name start
+-- The input begins with a frame that asks for this shard, from this start, by these rules.
+abbrev pub AsksBy : List ℕ → ShardName → Start → List RuleText → Type 0
+AsksBy input name start rules = (request : Request) × BeginsWithRequest input (Ok request) × IsPlain request name start rules
 
--- What is wrong with a message: it has a fault, or what it asks for isn't built.
+-- And no rule has a fault.
+abbrev pub Asks : List ℕ → ShardName → Start → List RuleText → Type 0
+Asks input name start rules = AsksBy input name start rules × (first_fault rules ≡ None)
+
+-- the rules by which the input asks for a shard have a pattern at this place, and none before it has a fault
+abbrev pub HasPatternIn : List ℕ → ℕ → Type 0
+HasPatternIn input index = (name : ShardName) × (start : Start) × (rules : List RuleText) × AsksBy input name start rules × HasPatternAt rules index
+
+-- no pattern is among the rules by which the input asks for a shard, if it does
+abbrev pub LacksPatterns : List ℕ → Type 0
+LacksPatterns input = (name : ShardName) (start : Start) (rules : List RuleText) → AsksBy input name start rules → HasNoPattern rules
+
+-- the message asks for a shard by rules of which that at this place is the first at fault
+abbrev pub HasRuleFault : List ℕ → ℕ → Fault → Type 0
+HasRuleFault message index why =
+    (request : Request) × Says message (Ok request) × (name : ShardName) × (start : Start) × (rules : List RuleText) × IsPlain request name start rules × FaultIs rules index why
+
+-- What is wrong with a message: it has a fault, what it asks for isn't built, or one of its rules has a fault.
 abbrev pub IsFaultOfMessage : List ℕ → RequestFault → Type 0
 IsFaultOfMessage message (Cut held) = ⊥
 IsFaultOfMessage message (TooLong n) = ⊥
@@ -76,6 +105,22 @@ IsFaultOfMessage message (TooManyKeys index) = Says message (Err (refusals.TooMa
 IsFaultOfMessage message (LongKey index) = Says message (Err (refusals.LongKey index))
 IsFaultOfMessage message (TooManyRules n) = Says message (Err (refusals.TooManyRules n))
 IsFaultOfMessage message (NotBuilt index) = (request : Request) × Says message (Ok request) × IsNotBuilt request index
+IsFaultOfMessage message (BadPattern index) = HasRuleFault message index NoPattern
+IsFaultOfMessage message (BadRule index at) = HasRuleFault message index (NoSelect at)
+IsFaultOfMessage message (PatternRefused index) = ⊥
+IsFaultOfMessage message (Unbound index why) = ⊥
+
+-- the faults that a message has by itself
+abbrev pub IsOfInput : RequestFault → Type 0
+IsOfInput (PatternRefused index) = ⊥
+IsOfInput (Unbound index why) = ⊥
+IsOfInput fault = Unit {0}
+
+-- the rules have this fault first
+abbrev pub IsFaultOfRules : List RuleText → RequestFault → Type 0
+IsFaultOfRules rules (BadPattern index) = FaultIs rules index NoPattern
+IsFaultOfRules rules (BadRule index at) = FaultIs rules index (NoSelect at)
+IsFaultOfRules rules fault = ⊥
 
 -- the input begins with a frame whose message has this fault
 abbrev pub BeginsWithFault : List ℕ → RequestFault → Type 0

@@ -73,6 +73,10 @@ fault_text (fault.TooManyKeys index) = codes "TooManyKeys " ++ decimal index
 fault_text (fault.LongKey index) = codes "LongKey " ++ decimal index
 fault_text (fault.TooManyRules n) = codes "TooManyRules " ++ decimal n
 fault_text (fault.NotBuilt index) = codes "NotBuilt " ++ decimal index
+fault_text (fault.BadPattern index) = codes "BadPattern " ++ decimal index
+fault_text (fault.PatternRefused index) = codes "PatternRefused " ++ decimal index
+fault_text (fault.BadRule index at) = codes "BadRule " ++ (decimal index ++ (codes " " ++ decimal at))
+fault_text (fault.Unbound index why) = codes "Unbound " ++ decimal index
 
 -- what is wrong with a frame
 abbrev pub frame_why_text : FrameWhy → List ℕ

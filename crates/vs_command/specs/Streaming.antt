@@ -1,10 +1,11 @@
 -- What a stream of one shard writes, and what is known where it is done.
-use Rattle.std.specs.Prelude.{◌≡◌, ◌≢◌, ◌⊎◌, ℕ, List, [], ◌∷◌, ◌++◌, map, take, Option, Some, None, Result, Ok, Err}
-use Rattle.std.specs.declared.cmp.Ordering.TheVariants.{Equal}
+use Rattle.std.specs.Prelude.{◌≡◌, ◌≢◌, ◌⊎◌, ℕ, List, [], ◌∷◌, ◌++◌, false, map, take, Option, Some, None, Result, Ok, Err}
 use Rattle.vs_base.specs.declared.Gtid.{Gtid}
 use Rattle.vs_base.specs.declared.ShardName.{ShardName}
+use Rattle.vs_base.specs.declared.rule_text.RuleText.{RuleText}
+use Rattle.vs_base.specs.Picks.{Bound}
 use Rattle.vs_base.specs.declared.Why.{Why}
-use Rattle.vs_base.specs.declared.Why.TheVariants.{NotBuilt}
+use Rattle.vs_base.specs.declared.Why.TheVariants.{TooLarge}
 use Rattle.vs_gtid.specs.declared.Entry.{Entry}
 use Rattle.vs_gtid.specs.Logs.{Log}
 use Rattle.vs_gtid.specs.Missing.{IsFirstMissing}
@@ -15,6 +16,16 @@ use Rattle.vs_schema.specs.declared.schema.Schema.{Schema}
 use Rattle.vs_schema.specs.declared.refusal.SchemaRefusal.{SchemaRefusal}
 use Rattle.vs_schema.specs.declared.refusal.SchemaRefusal.TheVariants as refusal
 use Rattle.vs_schema.specs.Rules.{schema_of}
+use Rattle.vs_filter.specs.Causes.{UnboundIs}
+use Rattle.vs_filter.specs.Picks.{bound_in}
+use Rattle.vs_filter.specs.Rules.{Meant, first_fault, meant_by, picked_tables}
+use Rattle.vs_filter.specs.declared.bound.Picked.{Picked}
+use Rattle.vs_render.specs.Bodies.{columns_in}
+use Rattle.vs_render.specs.Events.{Telling}
+use Rattle.vs_render.specs.Frames.{frames_bytes}
+use Rattle.vs_base.specs.declared.table.Table.{Table}
+use Rattle.vs_filter.specs.declared.filter.FilterRefusal.TheVariants as filters
+use Rattle.vs_select.specs.declared.refusal.SelectRefusal.{SelectRefusal}
 use Rattle.vs_log.specs.Meaning.{log_meant}
 use Rattle.vs_log.specs.Productions.{StandsAt}
 use Rattle.vs_rows.specs.Tables.{Tables}
@@ -28,14 +39,15 @@ use Rattle.vs_model.specs.Copy.{Filter}
 use Rattle.vs_model.specs.Legal.{Legal}
 use Rattle.vs_model.specs.Reached.{IsSettled}
 use Rattle.vs_model.specs.Requests.{First, OneShard, StartAt, From, FromEnd}
+use Rattle.vs_command.specs.declared.status.RequestFault.{RequestFault}
+use Rattle.vs_command.specs.declared.status.RequestFault.TheVariants.{BadPattern, PatternRefused, BadRule, Unbound}
 use Rattle.vs_command.specs.declared.status.Status.{Status}
 use Rattle.vs_command.specs.declared.status.Status.TheVariants.{Done, Memory, Usage, Request, UnknownShard, Purged, BadLog, FeedFault, LinkFault, InputFault, OpenFault, PositionTooLarge, BadSchema, BadFrame}
 use Rattle.vs_command.specs.declared.start.Start.{Start}
 use Rattle.vs_command.specs.declared.start.Start.TheVariants.{At, Current}
-use Rattle.vs_command.specs.Built.{IsFirstUnbuilt, IsNextUnbuilt}
+use Rattle.vs_command.specs.Sizes.{IsNextOversized}
 use Rattle.vs_command.specs.Requests.{Asks}
-use Rattle.vs_command.specs.Sending.{AreSpelled, IsCanonicalAlong, IsNextTooLarge, position_after, vector_at}
-use Rattle.vs_command.specs.Spelling.{frames_bytes}
+use Rattle.vs_command.specs.Sending.{IsCanonicalAlong, IsNextTooLarge, entries_bytes, position_after, vector_at}
 
 -- the schema that was read, or one without tables
 abbrev pub or_none : Result Schema SchemaRefusal → Schema
@@ -67,9 +79,22 @@ places_in (Some shard) s g at = shard_places s shard.schema shard.log g at
 abbrev pub cluster_meant : ClusterBytes → Cluster
 cluster_meant cluster = map (λ shard. (shard.name, shard_log shard.name shard.schema shard.log)) cluster
 
--- The filter that takes everything: each row as it is. No copy is made yet, so it names no table and orders no key.
-abbrev pub takes_all : Filter
-takes_all s = record { row = λ table row. Some row; tables = []; key = λ table row. row; order = λ table a b. Equal }
+-- the tables of a shard that may be in the cluster, by its schema text
+abbrev pub tables_in : Option Shard → List Table
+tables_in None = []
+tables_in (Some shard) = (schema_in shard.schema).tables
+
+-- those of them that the rules pick
+abbrev pub picks_in : List RuleText → Option Shard → List Picked
+picks_in rules shard = picked_tables rules (tables_in shard)
+
+-- the filter of a request over a cluster
+abbrev pub filter_of : List RuleText → ClusterBytes → Filter
+filter_of rules cluster s = bound_in (picks_in rules (find_shard cluster s)) (tables_in (find_shard cluster s))
+
+-- what the frames of such a request tell: no journals yet, and of each table the columns that leave
+abbrev pub telling_of : List RuleText → ClusterBytes → Telling
+telling_of rules cluster = record { journals = false; fields = λ s. columns_in (picks_in rules (find_shard cluster s)) }
 
 -- from where a shard is asked for, as the rules of a request have it
 abbrev pub start_at : Start → StartAt
@@ -88,45 +113,49 @@ pub record IsNextDueTooLarge (cluster : Cluster) (s : ShardName) (p : Position) 
   pub is : v ≡ vector_at s q
   pub large : IsNextTooLarge q (due s (log_of cluster s) q)
 
--- The next entry that is due to the shard isn't built, and stands at this place.
-pub record IsNextDueUnbuilt (stands : Gtid → ℕ → Type 0) (cluster : Cluster) (s : ShardName) (p : Position) (v : Vector) (at : ℕ) : Type 0 where
+-- The next entry that is due to the shard has a message over the limit, of so many bytes, and stands at this place.
+pub record IsNextDueOversized (stands : Gtid → ℕ → Type 0) (tables : List Picked) (cluster : Cluster) (s : ShardName) (p : Position) (v : Vector) (at bytes : ℕ) : Type 0 where
   pub base : IsSubset (log_of cluster s).base p
   pub q : Position
   pub is : v ≡ vector_at s q
-  pub unbuilt : IsNextUnbuilt stands (due s (log_of cluster s) q) at
+  pub oversized : IsNextOversized stands tables s (due s (log_of cluster s) q) at bytes
 
--- From the log's end, the first of all entries that isn't built stands at this place.
-abbrev pub IsUnbuiltFromEnd : (Gtid → ℕ → Type 0) → Log → Start → ℕ → Type 0
-IsUnbuiltFromEnd stands log start at = (start ≡ Current) × IsFirstUnbuilt stands log.entries at
-
--- What is wrong with a log: what its bytes say, where all that was due was sent; or what isn't built, where it is due, or anywhere in a log that is streamed from its end, and then nothing was sent.
-abbrev pub HasBadLogCause : (Gtid → ℕ → Type 0) → Cluster → ShardName → Start → Position → List Frame → ℕ → Why → Type 0
-HasBadLogCause stands cluster s start p frames offset why =
+-- What is wrong with a log: what its bytes say, where all that was due was sent; or the next entry that is due has a message over the limit.
+abbrev pub HasBadLogCause : (Gtid → ℕ → Type 0) → List Picked → Cluster → ShardName → Position → List Frame → ℕ → Why → Type 0
+HasBadLogCause stands tables cluster s p frames offset why =
     (((log_of cluster s).fault ≡ Some (offset, why)) × HasSentAll cluster s p (last_vector (vector_at s p) frames))
-    ⊎ ((why ≡ NotBuilt) × (IsNextDueUnbuilt stands cluster s p (last_vector (vector_at s p) frames) offset ⊎ (IsUnbuiltFromEnd stands (log_of cluster s) start offset × (frames ≡ []))))
+    ⊎ ((bytes : ℕ) × (why ≡ TooLarge bytes) × IsNextDueOversized stands tables cluster s p (last_vector (vector_at s p) frames) offset bytes)
 
 -- What an answer says of the shard that was asked for from a position, of its log, and of the vector that the stream came to; of other shards nothing is said here.
-abbrev pub HasCause : (Gtid → ℕ → Type 0) → Cluster → ShardName → Start → Position → List Frame → Status → Type 0
-HasCause stands cluster s start p frames Done = HasSentAll cluster s p (last_vector (vector_at s p) frames) × ((log_of cluster s).fault ≡ None)
-HasCause stands cluster s start p frames (BadLog name offset why) = (name ≡ s) × HasBadLogCause stands cluster s start p frames offset why
-HasCause stands cluster s start p frames (Purged name missing) = (name ≡ s) × IsFirstMissing (log_of cluster s).base p missing × (frames ≡ [])
-HasCause stands cluster s start p frames (PositionTooLarge name) = (name ≡ s) × IsNextDueTooLarge cluster s p (last_vector (vector_at s p) frames)
-HasCause stands cluster s start p frames LinkFault = IsSubset (log_of cluster s).base p
-HasCause stands cluster s start p frames Memory = Unit {0}
-HasCause stands cluster s start p frames Usage = ⊥
-HasCause stands cluster s start p frames (BadFrame number frame_why) = ⊥
-HasCause stands cluster s start p frames (Request fault) = ⊥
-HasCause stands cluster s start p frames (UnknownShard name) = ⊥
-HasCause stands cluster s start p frames (FeedFault name) = ⊥
-HasCause stands cluster s start p frames InputFault = ⊥
-HasCause stands cluster s start p frames (OpenFault name) = ⊥
-HasCause stands cluster s start p frames (BadSchema name line) = ⊥
+abbrev pub HasCause : (Gtid → ℕ → Type 0) → List Picked → Cluster → ShardName → Position → List Frame → Status → Type 0
+HasCause stands tables cluster s p frames Done = HasSentAll cluster s p (last_vector (vector_at s p) frames) × ((log_of cluster s).fault ≡ None)
+HasCause stands tables cluster s p frames (BadLog name offset why) = (name ≡ s) × HasBadLogCause stands tables cluster s p frames offset why
+HasCause stands tables cluster s p frames (Purged name missing) = (name ≡ s) × IsFirstMissing (log_of cluster s).base p missing × (frames ≡ [])
+HasCause stands tables cluster s p frames (PositionTooLarge name) = (name ≡ s) × IsNextDueTooLarge cluster s p (last_vector (vector_at s p) frames)
+HasCause stands tables cluster s p frames LinkFault = IsSubset (log_of cluster s).base p
+HasCause stands tables cluster s p frames Memory = Unit {0}
+HasCause stands tables cluster s p frames Usage = ⊥
+HasCause stands tables cluster s p frames (BadFrame number frame_why) = ⊥
+HasCause stands tables cluster s p frames (Request fault) = ⊥
+HasCause stands tables cluster s p frames (UnknownShard name) = ⊥
+HasCause stands tables cluster s p frames (FeedFault name) = ⊥
+HasCause stands tables cluster s p frames InputFault = ⊥
+HasCause stands tables cluster s p frames (OpenFault name) = ⊥
+HasCause stands tables cluster s p frames (BadSchema name line) = ⊥
+
+-- the faults of rules, which come once a request was read
+abbrev pub IsOfRules : RequestFault → Type 0
+IsOfRules (BadPattern index) = Unit {0}
+IsOfRules (PatternRefused index) = Unit {0}
+IsOfRules (BadRule index at) = Unit {0}
+IsOfRules (Unbound index why) = Unit {0}
+IsOfRules fault = ⊥
 
 -- the answers of a stream, once its request was read
 abbrev pub IsOfStream : Status → Type 0
 IsOfStream Usage = ⊥
 IsOfStream (BadFrame number frame_why) = ⊥
-IsOfStream (Request fault) = ⊥
+IsOfStream (Request fault) = IsOfRules fault
 IsOfStream InputFault = ⊥
 IsOfStream Done = Unit {0}
 IsOfStream Memory = Unit {0}
@@ -178,42 +207,59 @@ abbrev pub HasBadSchema : Option Shard → ℕ → Type 0
 HasBadSchema None line = ⊥
 HasBadSchema (Some shard) line = schema_of shard.schema ≡ Err (refusal.BadSchema line)
 
+-- a schema text reads, and the select of this rule is the first that doesn't bind to it, for this reason
+abbrev pub IsUnboundTo : List ℕ → List Meant → ℕ → SelectRefusal → Type 0
+IsUnboundTo text rules index why = (schema : Schema) × (schema_of text ≡ Ok schema) × UnboundIs rules schema.tables (filters.Unbound index why)
+
+-- the same, as the fault of the request that it is
+abbrev pub IsFaultOfBinding : List ℕ → List Meant → RequestFault → Type 0
+IsFaultOfBinding text rules fault = (index : ℕ) × (why : SelectRefusal) × (fault ≡ Unbound index why) × IsUnboundTo text rules index why
+
+-- the same of the schema text of a shard, which is there
+abbrev pub IsUnboundIn : Option Shard → List Meant → ℕ → SelectRefusal → Type 0
+IsUnboundIn None rules index why = ⊥
+IsUnboundIn (Some shard) rules index why = IsUnboundTo shard.schema rules index why
+
+-- a rule whose select doesn't bind, as the fault of the request that it is
+abbrev pub IsUnboundFault : Option Shard → List Meant → RequestFault → Type 0
+IsUnboundFault shard rules fault = (index : ℕ) × (why : SelectRefusal) × (fault ≡ Unbound index why) × IsUnboundIn shard rules index why
+
 -- The answers that come where no stream of the shard began: its log was not read, or memory ran out before the start was known.
-abbrev pub IsUnread : ClusterBytes → ShardName → Status → Type 0
-IsUnread cluster s (UnknownShard name) = (name ≡ s) × (find_shard cluster s ≡ None)
-IsUnread cluster s (BadSchema name line) = (name ≡ s) × HasBadSchema (find_shard cluster s) line
-IsUnread cluster s (FeedFault name) = name ≡ s
-IsUnread cluster s (OpenFault name) = name ≡ s
-IsUnread cluster s Memory = Unit {0}
-IsUnread cluster s Usage = ⊥
-IsUnread cluster s (BadFrame number frame_why) = ⊥
-IsUnread cluster s (Request fault) = ⊥
-IsUnread cluster s (Purged name missing) = ⊥
-IsUnread cluster s (BadLog name offset why) = ⊥
-IsUnread cluster s LinkFault = ⊥
-IsUnread cluster s InputFault = ⊥
-IsUnread cluster s (PositionTooLarge name) = ⊥
-IsUnread cluster s Done = ⊥
+abbrev pub IsUnread : ClusterBytes → ShardName → List Meant → Status → Type 0
+IsUnread cluster s rules (UnknownShard name) = (name ≡ s) × (find_shard cluster s ≡ None)
+IsUnread cluster s rules (BadSchema name line) = (name ≡ s) × HasBadSchema (find_shard cluster s) line
+IsUnread cluster s rules (Request fault) = IsUnboundFault (find_shard cluster s) rules fault
+IsUnread cluster s rules (FeedFault name) = name ≡ s
+IsUnread cluster s rules (OpenFault name) = name ≡ s
+IsUnread cluster s rules Memory = Unit {0}
+IsUnread cluster s rules Usage = ⊥
+IsUnread cluster s rules (BadFrame number frame_why) = ⊥
+IsUnread cluster s rules (Purged name missing) = ⊥
+IsUnread cluster s rules (BadLog name offset why) = ⊥
+IsUnread cluster s rules LinkFault = ⊥
+IsUnread cluster s rules InputFault = ⊥
+IsUnread cluster s rules (PositionTooLarge name) = ⊥
+IsUnread cluster s rules Done = ⊥
 
 -- What was written for a shard, from a first vector of the request: the bytes of legal frames, or a beginning of them where the link failed.
 -- Where the feed never waited, a stream from the log's end starts behind all of its entries.
-pub record Answers (cluster : ClusterBytes) (name : ShardName) (start : Start) (waited : Type 0) (status : Status) (written : List ℕ) : Type 0 where
+pub record Answers (cluster : ClusterBytes) (name : ShardName) (start : Start) (rules : List RuleText) (waited : Type 0) (status : Status) (written : List ℕ) : Type 0 where
   pub known : find_shard cluster name ≢ None
   pub p : Position
   pub frames : List Frame
   pub first : First (cluster_meant cluster) (OneShard name (start_at start) ∷ []) (vector_at name p)
   pub at_end : start ≡ Current → (waited → ⊥) → IsPositionAfter (log_of (cluster_meant cluster) name).base (log_of (cluster_meant cluster) name).entries p
-  pub legal : Legal (cluster_meant cluster) takes_all (vector_at name p) frames
+  pub legal : Legal (cluster_meant cluster) (filter_of rules cluster) (vector_at name p) frames
   pub bytes : List ℕ
-  pub spelled : frames_bytes frames ≡ Some bytes
+  pub spelled : bytes ≡ frames_bytes (telling_of rules cluster) frames
   pub prefix : IsPrefixOf written bytes
   pub whole : status ≢ LinkFault → written ≡ bytes
-  pub cause : HasCause (places_in (find_shard cluster name) name) (cluster_meant cluster) name start p frames status
+  pub cause : HasCause (places_in (find_shard cluster name) name) (picks_in rules (find_shard cluster name)) (cluster_meant cluster) name p frames status
 
 -- A shard was asked for: no stream of it began, and nothing was written; or what was written answers.
-pub data Outcome (cluster : ClusterBytes) (name : ShardName) (start : Start) (waited : Type 0) (status : Status) (written : List ℕ) : Type 0 where
-  unread : written ≡ [] → IsUnread cluster name status → Outcome cluster name start waited status written
-  answers : Answers cluster name start waited status written → Outcome cluster name start waited status written
+pub data Outcome (cluster : ClusterBytes) (name : ShardName) (start : Start) (rules : List RuleText) (waited : Type 0) (status : Status) (written : List ℕ) : Type 0 where
+  unread : written ≡ [] → IsUnread cluster name (map meant_by rules) status → Outcome cluster name start rules waited status written
+  answers : Answers cluster name start rules waited status written → Outcome cluster name start rules waited status written
 
 -- the position is a start of the log that was asked for; where the whole log was there, one from the end is behind all entries
 abbrev pub IsStart : Log → Start → Type 0 → Position → Type 0
@@ -221,49 +267,52 @@ IsStart log (At set) whole p = p ≡ set
 IsStart log Current whole p = (m : ℕ) × IsPositionAfter log.base (take m log.entries) p × (whole → take m log.entries ≡ log.entries)
 
 -- what is wrong with a log, by what was sent of it
-abbrev pub HasFault : (Gtid → ℕ → Type 0) → Log → Start → Position → List Entry → List Entry → ℕ → Why → Type 0
-HasFault stands log start p sent rest offset why =
+abbrev pub HasFault : (Gtid → ℕ → Type 0) → List Picked → ShardName → Log → Position → List Entry → ℕ → Why → Type 0
+HasFault stands tables s log p rest offset why =
     ((log.fault ≡ Some (offset, why)) × (rest ≡ []) × IsSubset log.base p)
-    ⊎ ((why ≡ NotBuilt) × ((IsNextUnbuilt stands rest offset × IsSubset log.base p) ⊎ (IsUnbuiltFromEnd stands log start offset × (sent ≡ []))))
+    ⊎ ((bytes : ℕ) × (why ≡ TooLarge bytes) × IsNextOversized stands tables s rest offset bytes × IsSubset log.base p)
 
 -- What an answer about the log of a shard says of it, and of the entries that were sent and those left; the other answers are none about a log.
-abbrev pub HasLogCause : (Gtid → ℕ → Type 0) → ShardName → Log → Start → Position → List Entry → List Entry → Status → Type 0
-HasLogCause stands s log start p sent rest Done = (rest ≡ []) × IsSubset log.base p × (log.fault ≡ None)
-HasLogCause stands s log start p sent rest (BadLog name offset why) = (name ≡ s) × HasFault stands log start p sent rest offset why
-HasLogCause stands s log start p sent rest (Purged name missing) = (name ≡ s) × IsFirstMissing log.base p missing × (sent ≡ [])
-HasLogCause stands s log start p sent rest (PositionTooLarge name) = (name ≡ s) × IsNextTooLarge (position_after p sent) rest × IsSubset log.base p
-HasLogCause stands s log start p sent rest LinkFault = IsSubset log.base p
-HasLogCause stands s log start p sent rest Memory = Unit {0}
-HasLogCause stands s log start p sent rest Usage = ⊥
-HasLogCause stands s log start p sent rest (BadFrame number frame_why) = ⊥
-HasLogCause stands s log start p sent rest (Request fault) = ⊥
-HasLogCause stands s log start p sent rest (UnknownShard name) = ⊥
-HasLogCause stands s log start p sent rest (FeedFault name) = ⊥
-HasLogCause stands s log start p sent rest InputFault = ⊥
-HasLogCause stands s log start p sent rest (OpenFault name) = ⊥
-HasLogCause stands s log start p sent rest (BadSchema name line) = ⊥
+abbrev pub HasLogCause : (Gtid → ℕ → Type 0) → List Picked → ShardName → Log → Position → List Entry → List Entry → Status → Type 0
+HasLogCause stands tables s log p sent rest Done = (rest ≡ []) × IsSubset log.base p × (log.fault ≡ None)
+HasLogCause stands tables s log p sent rest (BadLog name offset why) = (name ≡ s) × HasFault stands tables s log p rest offset why
+HasLogCause stands tables s log p sent rest (Purged name missing) = (name ≡ s) × IsFirstMissing log.base p missing × (sent ≡ [])
+HasLogCause stands tables s log p sent rest (PositionTooLarge name) = (name ≡ s) × IsNextTooLarge (position_after p sent) rest × IsSubset log.base p
+HasLogCause stands tables s log p sent rest LinkFault = IsSubset log.base p
+HasLogCause stands tables s log p sent rest Memory = Unit {0}
+HasLogCause stands tables s log p sent rest Usage = ⊥
+HasLogCause stands tables s log p sent rest (BadFrame number frame_why) = ⊥
+HasLogCause stands tables s log p sent rest (Request fault) = ⊥
+HasLogCause stands tables s log p sent rest (UnknownShard name) = ⊥
+HasLogCause stands tables s log p sent rest (FeedFault name) = ⊥
+HasLogCause stands tables s log p sent rest InputFault = ⊥
+HasLogCause stands tables s log p sent rest (OpenFault name) = ⊥
+HasLogCause stands tables s log p sent rest (BadSchema name line) = ⊥
 
 -- What was written of a log, from a position: the frames of the first entries that the position lacks, and where the link failed a beginning of them.
-pub record IsStreamed (stands : Gtid → ℕ → Type 0) (s : ShardName) (log : Log) (start : Start) (p : Position) (status : Status) (written : List ℕ) : Type 0 where
+pub record IsStreamed (stands : Gtid → ℕ → Type 0) (tables : List Picked) (s : ShardName) (log : Log) (p : Position) (status : Status) (written : List ℕ) : Type 0 where
   pub sent : List Entry
   pub rest : List Entry
   pub are : after log p ≡ sent ++ rest
-  pub bytes : List ℕ
-  pub spelled : AreSpelled s p sent bytes
   pub canonical : IsCanonicalAlong p sent
-  pub prefix : IsPrefixOf written bytes
-  pub whole : status ≢ LinkFault → written ≡ bytes
+  pub prefix : IsPrefixOf written (entries_bytes tables s p sent)
+  pub whole : status ≢ LinkFault → written ≡ entries_bytes tables s p sent
   pub base : (sent ≡ []) ⊎ IsSubset log.base p
-  pub cause : HasLogCause stands s log start p sent rest status
+  pub cause : HasLogCause stands tables s log p sent rest status
 
 -- a stream of a log from a start, or want of memory before it
-abbrev pub IsStreamedFrom : (Gtid → ℕ → Type 0) → ShardName → Log → Start → Type 0 → Status → List ℕ → Type 0
-IsStreamedFrom stands s log start whole status written =
+abbrev pub IsStreamedFrom : (Gtid → ℕ → Type 0) → List Picked → ShardName → Log → Start → Type 0 → Status → List ℕ → Type 0
+IsStreamedFrom stands tables s log start whole status written =
     ((status ≡ Memory) × (written ≡ []))
-    ⊎ ((p : Position) × IsStart log start whole p × IsCanonical p × IsStreamed stands s log start p status written)
+    ⊎ ((p : Position) × IsStart log start whole p × IsCanonical p × IsStreamed stands tables s log p status written)
 
 -- The headline: what is written answers the request frame at the front of the input, or nothing is written and the answer came before any stream.
 -- `waited` says of a shard that its feed had nothing yet in the call.
 pub data Headline (cluster : ClusterBytes) (waited : ShardName → Type 0) (input : List ℕ) (status : Status) (written : List ℕ) : Type 0 where
-  asked : (name : ShardName) (start : Start) → Asks input name start → Outcome cluster name start (waited name) status written → Headline cluster waited input status written
+  asked : (name : ShardName) (start : Start) (rules : List RuleText) → Asks input name start rules → Outcome cluster name start rules (waited name) status written → Headline cluster waited input status written
   silent : written ≡ [] → IsBeforeStream status → Headline cluster waited input status written
+
+-- What comes of a request for a shard by these rules: they are refused, or memory ran out, and nothing is written; or no rule has a fault, and the shard is streamed.
+pub data Filtered (cluster : ClusterBytes) (name : ShardName) (start : Start) (rules : List RuleText) (waited : Type 0) (status : Status) (written : List ℕ) : Type 0 where
+  refused : written ≡ [] → IsBeforeStream status → Filtered cluster name start rules waited status written
+  taken : first_fault rules ≡ None → Outcome cluster name start rules waited status written → Filtered cluster name start rules waited status written

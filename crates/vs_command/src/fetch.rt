@@ -13,17 +13,23 @@ ghost use Rattle.std.specs.Prelude.{
   MatchOption,
   OnOk,
   false,
+  map,
 };
 ghost use Rattle.vs_base.specs.declared.ShardName.{ShardName};
 ghost use Rattle.vs_base.specs.Names.{same_name};
 ghost use Rattle.vs_outside.specs.Clusters.{Shard, find_shard};
 ghost use Rattle.vs_outside.specs.Counts.{Rose};
 ghost use Rattle.vs_outside.specs.Feeds.{GivesAllBack};
+ghost use Rattle.vs_schema.specs.Rules.{schema_of};
+ghost use Rattle.vs_filter.specs.Causes.{meant_as};
+ghost use Rattle.vs_filter.specs.Rules.{first_unbound, picked_by};
 ghost use Rattle.vs_log.specs.Laws.{HasNewGtids};
 ghost use Rattle.vs_log.specs.Meaning.{log_meant};
 ghost use Rattle.vs_log.specs.Productions.{StandsAt};
 ghost use Rattle.vs_entries.specs.Pieces.{log_fed};
 ghost use Rattle.vs_entries.specs.Rules.{rules_of};
+ghost use Rattle.vs_command.specs.declared.status.RequestFault.{RequestFault};
+ghost use Rattle.vs_command.specs.Causes.{IsBindingFault};
 ghost use Rattle.vs_command.specs.Fetched.{
   ArePlaced,
   HasGiven,
@@ -34,14 +40,16 @@ ghost use Rattle.vs_command.specs.Fetched.{
   read_as,
 };
 ghost use Rattle.vs_command.specs.Outside.{GoesOn, KeepsName};
-ghost use Rattle.vs_command.specs.Stages.{HasSchema};
-ghost use Rattle.vs_command.specs.Streaming.{HasBadSchema};
+ghost use Rattle.vs_command.specs.Stages.{HasBinding};
+ghost use Rattle.vs_command.specs.Streaming.{HasBadSchema, IsFaultOfBinding, IsUnboundFault};
 
-use crate::fetched::{Fetched, LogFault, Placed};
+use crate::fetched::{Fetched, FetchedShard, LogFault, Placed};
+use crate::status::RequestFault;
 use std::alloc::{AllocError, Global};
 use std::sync::Wait;
 use vs_base::{List, OutOfMemory, ShardName};
 use vs_entries::{LogRefusal, Reader, Took};
+use vs_filter::{Bound, Filter, FilterRefusal};
 use vs_gtid::GtidSet;
 use vs_log::{law_distinct, law_growth};
 use vs_outside::{AskEnd, Failed, Feed, Got, Opened, Tablets};
@@ -56,11 +64,13 @@ pub enum FeedEnd {
 }
 
 /// Why a shard's log was not fetched.
-#[derive(Debug, Clone, Copy, PartialEq, Eq)]
+#[derive(Debug, Drop)]
 pub enum FetchEnd {
     Memory,
     /// The schema text is refused at this line.
     BadSchema { line: usize },
+    /// The select of a rule doesn't stand on its table.
+    Refused(RequestFault),
     /// The log could not be opened.
     OpenFault,
     /// A read of the log failed.
@@ -183,22 +193,57 @@ fn read_feed<R: Wait, F: Feed>(
     unreachable!()
 }
 
-/// The log of a shard, read to its end; or none where the cluster lacks the shard. The feed is given
-/// back, unread where the schema text is refused.
+/// A schema that was read, and the filter bound to it.
+#[derive(Drop)]
+struct Binding {
+    schema: Schema,
+    bound: Bound,
+}
+
+/// Reads a schema text, and binds the filter to it.
+fn read_schema(alloc: Global, filter: &Filter, text: &[u8]) -> Result<Binding, FetchEnd>
+    ensures reads { IfOk result (λ b. schema_of text.now ≡ Ok b.schema) }
+    ensures binds { IfOk result (λ b. first_unbound (map meant_as filter.now.rules) b.schema.tables ≡ None) }
+    ensures picks { IfOk result (λ b. b.bound.tables ≡ picked_by (map meant_as filter.now.rules) b.schema.tables) }
+    ensures bad { (line : ℕ) → result ≡ Err (FetchEnd.BadSchema line) → schema_of text.now ≡ Err (SchemaRefusal.BadSchema line) }
+    ensures refused { (fault : RequestFault) → result ≡ Err (FetchEnd.Refused fault) → IsFaultOfBinding text.now (map meant_as filter.now.rules) fault }
+    ensures no_open { result ≡ Err FetchEnd.OpenFault → ⊥ }
+    ensures no_feed { result ≡ Err FetchEnd.FeedFault → ⊥ }
+{
+    let schema = match Schema::read(alloc, text) {
+        Ok(schema) => schema,
+        Err(SchemaRefusal::BadSchema { line }) => return Err(FetchEnd::BadSchema { line }),
+        Err(SchemaRefusal::Memory) => return Err(FetchEnd::Memory),
+    };
+    match filter.bind(alloc, &schema) {
+        Ok(bound) => Ok(Binding { schema, bound }),
+        Err(FilterRefusal::Unbound { index, why }) => {
+            Err(FetchEnd::Refused(RequestFault::Unbound { index, why }))
+        }
+        Err(_) => Err(FetchEnd::Memory),
+    }
+}
+
+/// The log of a shard, read to its end, and the filter bound to the shard's schema; or none where the
+/// cluster lacks the shard. The feed is given back, unread where the schema text or a rule is refused.
 pub fn fetch_log<R: Wait, T: Tablets>(
     rt: &R,
     alloc: Global,
     tablets: &mut T,
     name: &ShardName,
-) -> Result<Option<Fetched>, FetchEnd>
-    ensures log { IfOk result (λ o. MatchOption o (IfSome (T.cluster tablets.old) (λ c. find_shard c name.now ≡ None)) (λ f. (text bytes : Items ℕ) × IsFetchedOf name.now text bytes f × IfSome (T.cluster tablets.old) (λ c. IsOfShard (find_shard c name.now) text bytes))) }
-    ensures new_gtids { IfOk result (λ o. IfSome o (λ f. HasNewGtids (read_as f))) }
-    ensures marked { IfOk result (λ o. IfSome o (λ f. f.mark ≢ None → Rose (T.waits tablets.old name.now) (T.waits tablets.new name.now))) }
+    filter: &Filter,
+) -> Result<Option<FetchedShard>, FetchEnd>
+    ensures log { IfOk result (λ o. MatchOption o (IfSome (T.cluster tablets.old) (λ c. find_shard c name.now ≡ None)) (λ f. (text bytes : Items ℕ) × IsFetchedOf name.now (map meant_as filter.now.rules) text bytes f.log f.bound.tables × IfSome (T.cluster tablets.old) (λ c. IsOfShard (find_shard c name.now) text bytes))) }
+    ensures new_gtids { IfOk result (λ o. IfSome o (λ f. HasNewGtids (read_as f.log))) }
+    ensures marked { IfOk result (λ o. IfSome o (λ f. f.log.mark ≢ None → Rose (T.waits tablets.old name.now) (T.waits tablets.new name.now))) }
     ensures cluster { T.cluster tablets.new ≡ T.cluster tablets.old }
     ensures bad_schema { (line : ℕ) → result ≡ Err (FetchEnd.BadSchema line) → IfSome (T.cluster tablets.old) (λ c. HasBadSchema (find_shard c name.now) line) }
+    ensures binding { (fault : RequestFault) → result ≡ Err (FetchEnd.Refused fault) → IsBindingFault fault }
+    ensures refused { (fault : RequestFault) → result ≡ Err (FetchEnd.Refused fault) → IfSome (T.cluster tablets.old) (λ c. IsUnboundFault (find_shard c name.now) (map meant_as filter.now.rules) fault) }
     ensures open_failed { result ≡ Err FetchEnd.OpenFault → Rose (T.open_faults tablets.old name.now) (T.open_faults tablets.new name.now) }
-    ensures feed_opened { result ≡ Err FetchEnd.FeedFault → IfSome (T.cluster tablets.old) (λ c. HasSchema (find_shard c name.now)) }
+    ensures feed_opened { result ≡ Err FetchEnd.FeedFault → IfSome (T.cluster tablets.old) (λ c. HasBinding (find_shard c name.now) (map meant_as filter.now.rules)) }
     ensures feed_failed { result ≡ Err FetchEnd.FeedFault → Rose (T.faults tablets.old name.now) (T.faults tablets.new name.now) }
+    ensures patterns { T.pattern_faults tablets.new ≡ T.pattern_faults tablets.old }
     ensures goes_on { GoesOn T.cluster T.faults T.waits T.open_faults T.list_faults T.sound tablets.old tablets.new }
     ensures gives_back { GivesAllBack (T.opened tablets.old) (T.returned tablets.old) (T.opened tablets.new) (T.returned tablets.new) }
     ensures folder { T.folder tablets.new ≡ T.folder tablets.old }
@@ -215,21 +260,18 @@ pub fn fetch_log<R: Wait, T: Tablets>(
         mut feed,
         schema: text,
     } = opened;
-    let schema = match Schema::read(alloc, text.as_bytes()) {
-        Ok(schema) => schema,
-        Err(SchemaRefusal::BadSchema { line }) => {
+    let binding = match read_schema(alloc, filter, text.as_bytes()) {
+        Ok(binding) => binding,
+        Err(end) => {
             tablets.give_back(name, feed);
-            return Err(FetchEnd::BadSchema { line });
-        }
-        Err(SchemaRefusal::Memory) => {
-            tablets.give_back(name, feed);
-            return Err(FetchEnd::Memory);
+            return Err(end);
         }
     };
+    let Binding { schema, bound } = binding;
     let read = read_feed(rt, alloc, &mut feed, &schema, name.keyspace.as_bytes());
     tablets.give_back(name, feed);
     match read {
-        Ok(fetched) => Ok(Some(fetched)),
+        Ok(log) => Ok(Some(FetchedShard { log, bound })),
         Err(FeedEnd::Memory) => Err(FetchEnd::Memory),
         Err(FeedEnd::Failed) => Err(FetchEnd::FeedFault),
     }

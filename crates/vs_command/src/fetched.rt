@@ -1,4 +1,5 @@
 use vs_base::{List, Why};
+use vs_filter::Bound;
 use vs_gtid::GtidSet;
 use vs_journal::Entry;
 
@@ -24,4 +25,11 @@ pub struct Fetched {
     pub fault: Option<LogFault>,
     /// how many entries were whole at the feed's first wait behind the log's base
     pub mark: Option<usize>,
+}
+
+/// The log of a shard, and the filter bound to the shard's schema.
+#[derive(Debug, Drop)]
+pub struct FetchedShard {
+    pub log: Fetched,
+    pub bound: Bound,
 }

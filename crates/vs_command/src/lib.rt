@@ -5,7 +5,6 @@
 pub mod connection;
 mod fetch;
 mod fetched;
-mod frame;
 mod line;
 mod options;
 mod plain;

@@ -194,12 +194,16 @@ fn request<'a>(fault: &'a RequestFault) -> [Part<'a>; 10]
         RequestFault::NoShards => words(b"request: NoShards"),
         RequestFault::TooManyShards { n } => of_fault(b"TooManyShards ", *n as u64),
         RequestFault::BadName { index } => of_fault(b"BadName ", *index as u64),
-        RequestFault::BadPosition { index, at } => bad_position(*index, *at),
+        RequestFault::BadPosition { index, at } => at_place(b"BadPosition ", *index, *at),
         RequestFault::NeedsShard { index } => of_fault(b"NeedsShard ", *index as u64),
         RequestFault::TooManyKeys { index } => of_fault(b"TooManyKeys ", *index as u64),
         RequestFault::LongKey { index } => of_fault(b"LongKey ", *index as u64),
         RequestFault::TooManyRules { n } => of_fault(b"TooManyRules ", *n as u64),
         RequestFault::NotBuilt { index } => of_fault(b"NotBuilt ", *index as u64),
+        RequestFault::BadPattern { index } => of_fault(b"BadPattern ", *index as u64),
+        RequestFault::PatternRefused { index } => of_fault(b"PatternRefused ", *index as u64),
+        RequestFault::BadRule { index, at } => at_place(b"BadRule ", *index, *at),
+        RequestFault::Unbound { index, .. } => of_fault(b"Unbound ", *index as u64),
     }
 }
 
@@ -214,15 +218,22 @@ fn of_fault<'a>(fault: &'a [u8], number: u64) -> [Part<'a>; 10]
     )
 }
 
-fn bad_position<'a>(index: usize, at: usize) -> [Part<'a>; 10]
-    ensures { text_of result ≡ codes "request: " ++ (codes "BadPosition " ++ (decimal index ++ (codes " " ++ decimal at))) }
+fn at_place<'a>(fault: &'a [u8], index: usize, at: usize) -> [Part<'a>; 10]
+    ensures { text_of result ≡ codes "request: " ++ (fault.now ++ (decimal index ++ (codes " " ++ decimal at))) }
 {
-    padded(
-        Part::Words(b"request: BadPosition "),
+    let no = Part::Words(b"");
+    [
+        Part::Words(b"request: "),
+        Part::Words(fault),
         Part::Number(index as u64),
         Part::Words(b" "),
         Part::Number(at as u64),
-    )
+        no,
+        no,
+        no,
+        no,
+        no,
+    ]
 }
 
 #[tactic(auto, unfolding(crate::specs::StatusTexts::why_text))]

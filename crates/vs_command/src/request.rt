@@ -23,7 +23,7 @@ ghost use Rattle.vs_request.specs.Requests.{Says};
 ghost use Rattle.vs_request.specs.declared.request.Request.{Request};
 ghost use Rattle.vs_command.specs.declared.status.RequestFault.{RequestFault};
 ghost use Rattle.vs_command.specs.Requests.{
-  Asks,
+  AsksBy,
   HasEnded,
   HasTaken,
   IsFaultOf,
@@ -38,12 +38,13 @@ ghost use Rattle.vs_command.specs.Requests.{
   end_of,
   entry_of,
   has_no_flags,
+  rules_or_any,
 };
 
 use crate::start::Start;
 use crate::status::RequestFault;
 use std::alloc::Global;
-use vs_base::ShardName;
+use vs_base::{List, OutOfMemory, RuleText, ShardName, Text};
 use vs_frame::LIMIT;
 use vs_outside::{Failed, Source};
 use vs_request::{Flags, Request, RequestRefusal, StartAt, Wanted};
@@ -62,6 +63,8 @@ pub enum RequestEnd {
 pub struct Asked {
     pub name: ShardName,
     pub start: Start,
+    /// by which rules
+    pub rules: List<RuleText>,
 }
 
 /// How many bytes a read asks for, at most.
@@ -106,6 +109,7 @@ fn length_in(head: &[u8]) -> Option<u32>
 fn read_frame<I: Source>(alloc: Global, input: &mut I) -> Result<Vec<u8>, RequestEnd>
     ensures frame { IfOk result (λ m. TakesOf (I.left input.old) (I.left input.new) (λ taken rest. (taken ≡ framed m.items) × IsWithinLimit m.items)) }
     ensures fault { (fault : RequestFault) → result ≡ Err (RequestEnd.Fault fault) → TakesOf (I.left input.old) (I.left input.new) (HasEnded fault) }
+    ensures no_pattern { (index : ℕ) → result ≡ Err (RequestEnd.Fault (RequestFault.PatternRefused index)) → ⊥ }
     ensures within { Takes (I.left input.old) (I.left input.new) IsWithinFrame }
     ensures later { I.faults input.old ≤ I.faults input.new }
     ensures failed { result ≡ Err RequestEnd.InputFault → Rose (I.faults input.old) (I.faults input.new) }
@@ -137,9 +141,9 @@ fn has_no_flags(flags: &Flags) -> bool
 }
 
 /// What the entry asks for, where that is one shard, from a position or from its log's end.
-fn asked_by(wanted: Wanted) -> Option<Asked>
+fn asked_by(wanted: Wanted, rules: List<RuleText>) -> Option<Asked>
     requires { FitsName wanted.keyspace wanted.shard }
-    ensures { MatchOption result (IsUnbuilt wanted) (λ asked. (wanted ≡ entry_of asked.name asked.start) × (asked.name.shard ≢ [])) }
+    ensures { MatchOption result (IsUnbuilt wanted) (λ asked. (wanted ≡ entry_of asked.name asked.start) × (asked.name.shard ≢ []) × (asked.rules ≡ rules)) }
 {
     let Wanted {
         keyspace,
@@ -159,16 +163,16 @@ fn asked_by(wanted: Wanted) -> Option<Asked>
         StartAt::At(set) => Start::At(set),
     };
     match ShardName::new(keyspace, shard) {
-        Some(name) => Some(Asked { name, start }),
+        Some(name) => Some(Asked { name, start, rules }),
         None => unreachable!(),
     }
 }
 
-/// What the request asks for, where this release does it.
+/// What the request asks for, where this release does it, by the rules that it has.
 fn asked_of(request: Request) -> Result<Asked, RequestFault>
     requires some { 1 ≤ length request.entries }
     requires names { AllByRecursion (λ w. FitsName w.keyspace w.shard) request.entries }
-    ensures asks { IfOk result (λ asked. IsPlain request asked.name asked.start) }
+    ensures asks { IfOk result (λ asked. IsPlain request asked.name asked.start (rules_or_any asked.rules)) }
     ensures not_built { IfErr result (λ fault. (index : ℕ) × (fault ≡ RequestFault.NotBuilt index) × IsNotBuilt request index) }
 {
     let Request {
@@ -180,19 +184,51 @@ fn asked_of(request: Request) -> Result<Asked, RequestFault>
     if entries.len() > 1 {
         return Err(RequestFault::NotBuilt { index: 1 });
     }
-    if !rules.as_slice().is_empty() {
-        return Err(RequestFault::NotBuilt { index: 0 });
-    }
     if !has_no_flags(&flags) {
         return Err(RequestFault::NotBuilt { index: 0 });
     }
     let Some(wanted) = entries.pop() else {
         unreachable!();
     };
-    match asked_by(wanted) {
+    match asked_by(wanted, rules) {
         Some(asked) => Ok(asked),
         None => Err(RequestFault::NotBuilt { index: 0 }),
     }
+}
+
+/// The rule of a request without rules, which takes all rows of all tables.
+fn any_rule(alloc: Global) -> Result<List<RuleText>, OutOfMemory>
+    ensures { IfOk result (λ rules. rules ≡ rules_or_any []) }
+{
+    let mut rules = List::new(alloc);
+    rules.push(RuleText {
+        pattern: Text::from_bytes(alloc, b"/.*")?,
+        filter: Text::new(alloc),
+    })?;
+    Ok(rules)
+}
+
+/// The rules by which rows are taken.
+fn rules_or_any(alloc: Global, rules: List<RuleText>) -> Result<List<RuleText>, OutOfMemory>
+    ensures { IfOk result (λ taken. taken ≡ rules_or_any rules) }
+{
+    if rules.as_slice().is_empty() {
+        any_rule(alloc)
+    } else {
+        Ok(rules)
+    }
+}
+
+/// What is asked for, with the rule of a request without rules.
+fn with_rules(alloc: Global, asked: Asked) -> Result<Asked, OutOfMemory>
+    ensures { IfOk result (λ whole. (whole.name ≡ asked.name) × (whole.start ≡ asked.start) × (whole.rules ≡ rules_or_any asked.rules)) }
+{
+    let Asked { name, start, rules } = asked;
+    Ok(Asked {
+        name,
+        start,
+        rules: rules_or_any(alloc, rules)?,
+    })
 }
 
 /// A refusal of the message, as the fault of the request that it is.
@@ -216,13 +252,16 @@ fn refused(refusal: RequestRefusal) -> RequestEnd
 
 /// What the message of a request asks for.
 fn read_message(alloc: Global, message: &[u8]) -> Result<Asked, RequestEnd>
-    ensures asks { IfOk result (λ asked. (request : Request) × Says message.now (Ok request) × IsPlain request asked.name asked.start) }
+    ensures asks { IfOk result (λ asked. (request : Request) × Says message.now (Ok request) × IsPlain request asked.name asked.start asked.rules) }
     ensures fault { (fault : RequestFault) → result ≡ Err (RequestEnd.Fault fault) → IsFaultOfMessage message.now fault }
     ensures kind { result ≡ Err RequestEnd.InputFault → ⊥ }
 {
     match vs_request::read_request(alloc, message) {
         Ok(request) => match asked_of(request) {
-            Ok(asked) => Ok(asked),
+            Ok(asked) => match with_rules(alloc, asked) {
+                Ok(whole) => Ok(whole),
+                Err(_) => Err(RequestEnd::Memory),
+            },
             Err(fault) => Err(RequestEnd::Fault(fault)),
         },
         Err(refusal) => Err(refused(refusal)),
@@ -231,9 +270,10 @@ fn read_message(alloc: Global, message: &[u8]) -> Result<Asked, RequestEnd>
 
 /// Reads the frame at the front of the input, and what its message asks for.
 pub fn read_request<I: Source>(alloc: Global, input: &mut I) -> Result<Asked, RequestEnd>
-    ensures asks { IfOk result (λ asked. IfSome (I.left input.old) (λ bytes. Asks bytes asked.name asked.start)) }
+    ensures asks { IfOk result (λ asked. IfSome (I.left input.old) (λ bytes. AsksBy bytes asked.name asked.start asked.rules)) }
     ensures took { IfOk result (λ _. TakesOf (I.left input.old) (I.left input.new) (λ taken rest. IsRequestFrame taken)) }
     ensures fault { (fault : RequestFault) → result ≡ Err (RequestEnd.Fault fault) → IfSome (I.left input.old) (λ bytes. IsFaultOf bytes fault) }
+    ensures no_pattern { (index : ℕ) → result ≡ Err (RequestEnd.Fault (RequestFault.PatternRefused index)) → ⊥ }
     ensures took_of_fault { (fault : RequestFault) → result ≡ Err (RequestEnd.Fault fault) → TakesOf (I.left input.old) (I.left input.new) (HasTaken fault) }
     ensures within { Takes (I.left input.old) (I.left input.new) IsWithinFrame }
     ensures later { I.faults input.old ≤ I.faults input.new }

@@ -10,6 +10,7 @@ use vs_base::{Gtid, OutOfMemory, ShardName, Text, Why};
 use vs_frame::FrameWhy;
 use vs_outside::{Failed, MemSink, Sink, write_all};
 use vs_proto::ProtoRefusal;
+use vs_select::SelectRefusal;
 
 /// What is wrong with a request. An `index` counts its entries from 0.
 #[derive(Debug, Drop)]
@@ -33,6 +34,14 @@ pub enum RequestFault {
     /// A last key over its limits.
     LongKey { index: usize },
     TooManyRules { n: usize },
+    /// The match of a rule is no pattern. Rules are counted from 0.
+    BadPattern { index: usize },
+    /// The pattern of a rule was refused for another reason than its text.
+    PatternRefused { index: usize },
+    /// The filter of a rule is no select, from this byte of its text on, or doesn't stand on its match.
+    BadRule { index: usize, at: usize },
+    /// The select of a rule doesn't stand on its table.
+    Unbound { index: usize, why: SelectRefusal },
     /// This release does not do what is asked for.
     NotBuilt { index: usize },
 }

@@ -1,8 +1,7 @@
-ghost use Rattle.std.specs.Prelude.{◌≡◌, ◌≤◌, ◌⊎◌, IfOk, MatchOption, None, take};
+ghost use Rattle.std.specs.Prelude.{◌≡◌, ◌≤◌, ◌⊎◌, IfOk, None};
 ghost use Rattle.vs_outside.specs.Counts.{Rose};
 ghost use Rattle.vs_outside.specs.Told.{Writes};
 ghost use Rattle.vs_log.specs.Laws.{FitAlong, HasNewGtids};
-ghost use Rattle.vs_command.specs.Built.{AreBuilt, IsFirstUnbuilt};
 ghost use Rattle.vs_command.specs.Causes.{LogAsksFor};
 ghost use Rattle.vs_command.specs.Fetched.{IsPlaced, entries_of, read_as};
 ghost use Rattle.vs_command.specs.Sending.{lacking, position_after};
@@ -10,11 +9,12 @@ ghost use Rattle.vs_command.specs.Stages.{IsBroughtOf};
 ghost use Rattle.vs_command.specs.Streaming.{IsOfLog, IsStart, IsStreamedFrom};
 
 use crate::fetched::{Fetched, Placed};
-use crate::sending::{SendEnd, is_built, send_entries};
+use crate::sending::{SendEnd, send_entries};
 use crate::start::Start;
 use crate::status::Status;
 use std::alloc::{AllocError, Global};
 use vs_base::{OutOfMemory, ShardName, Why};
+use vs_filter::Bound;
 use vs_gtid::GtidSet;
 use vs_outside::Sink;
 
@@ -64,69 +64,39 @@ fn position_of(alloc: Global, start: Start, fetched: &Fetched) -> Result<GtidSet
     }
 }
 
-/// The place of the first entry that can't be sent.
-fn first_unbuilt(entries: &[Placed]) -> Option<u64>
-    ensures { MatchOption result (AreBuilt (entries_of entries.now)) (λ at. IsFirstUnbuilt (IsPlaced entries.now) (entries_of entries.now) at) }
-{
-    for placed in entries {
-        if !is_built(&placed.entry.work) {
-            return Some(placed.at);
-        }
-    }
-    None
-}
-
-/// Which entries are due from the log's end hangs on how the feed came. So there the whole log is to be
-/// such as can be sent: the place of the first entry that isn't.
-fn unbuilt_from_end(start: &Start, entries: &[Placed]) -> Option<u64>
-    ensures { MatchOption result (start.now ≡ Start.Current → AreBuilt (entries_of entries.now)) (λ at. (start.now ≡ Start.Current) × IsFirstUnbuilt (IsPlaced entries.now) (entries_of entries.now) at) }
-{
-    match start {
-        Start::At(_) => None,
-        Start::Current => first_unbuilt(entries),
-    }
-}
-
 /// Streams a shard's log, which is there whole, from a start to its end or to its first fault.
 pub fn stream_log<O: Sink>(
     alloc: Global,
     output: &mut O,
     name: ShardName,
     start: Start,
+    bound: &Bound,
     fetched: Fetched,
 ) -> Status
     requires { HasNewGtids (read_as fetched) }
-    ensures wrote { Writes (O.sent output.old) (O.sent output.new) (λ w. IsStreamedFrom (IsPlaced fetched.entries) name (read_as fetched) start (fetched.mark ≡ None) result w) }
-    ensures due { IsBroughtOf (read_as fetched) start result ⊎ LogAsksFor (IsPlaced fetched.entries) name (read_as fetched) start result }
+    ensures wrote { Writes (O.sent output.old) (O.sent output.new) (λ w. IsStreamedFrom (IsPlaced fetched.entries) bound.now.tables name (read_as fetched) start (fetched.mark ≡ None) result w) }
+    ensures due { IsBroughtOf (read_as fetched) start result ⊎ LogAsksFor (IsPlaced fetched.entries) bound.now.tables name (read_as fetched) start result }
     ensures kind { IsOfLog result }
     ensures later { O.faults output.old ≤ O.faults output.new }
     ensures link { result ≡ Status.LinkFault → Rose (O.faults output.old) (O.faults output.new) }
 {
     let entries = fetched.entries.as_slice();
-    let unbuilt = unbuilt_from_end(&start, entries);
     let Ok(start) = position_of(alloc, start, &fetched) else {
         return Status::Memory;
     };
     if let Some(missing) = fetched.base.first_missing(&start) {
         return Status::Purged { name, missing };
     }
-    if let Some(offset) = unbuilt {
-        return Status::BadLog {
-            name,
-            offset,
-            why: Why::NotBuilt,
-        };
-    }
-    match send_entries(alloc, output, &name, entries, &start) {
+    match send_entries(alloc, output, &name, entries, bound, &start) {
         Ok(()) => {}
         Err(SendEnd::Memory) => return Status::Memory,
         Err(SendEnd::LinkFault) => return Status::LinkFault,
         Err(SendEnd::PositionTooLarge) => return Status::PositionTooLarge { name },
-        Err(SendEnd::NotBuilt { offset }) => {
+        Err(SendEnd::TooLarge { offset, bytes }) => {
             return Status::BadLog {
                 name,
                 offset,
-                why: Why::NotBuilt,
+                why: Why::TooLarge { bytes },
             };
         }
     }

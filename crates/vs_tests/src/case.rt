@@ -137,3 +137,14 @@ pub fn check<R: Wait + Abort>(rt: &R, alloc: Global, cases: &[Case<'_>]) -> Resu
     }
     Ok(())
 }
+
+/// Streams the case to its end.
+pub fn record<R: Wait>(
+    rt: &R,
+    alloc: Global,
+    case: &Case<'_>,
+    output: &mut MemSink,
+) -> Result<Status, AllocError> {
+    let words = stream_words(alloc)?;
+    run_case(rt, alloc, &words, case, output)
+}

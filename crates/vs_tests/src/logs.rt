@@ -44,6 +44,11 @@ const DROP_S: &[u8] =
     b"e\0\0\0\x02\x01\0\0\0\x31\0\0\0\0\0\0\0\0\0\0\0\0\0\0\0\0\0\x04\0\0\0\0vt_c\0drop table \
     s";
 
+/// The front of a statement whose text is `drop table ` and 8,388,608 bytes more.
+const LARGE_HEAD: &[u8] =
+    b"e\0\0\0\x02\x01\0\0\0\x30\0\x80\0\0\0\0\0\0\0\0\0\0\0\0\0\0\0\x04\0\0\0\0vt_c\0drop table \
+    ";
+
 /// The GTID event of the number 5,000, at the time 100.
 const FAR_GTID: &[u8] =
     b"d\0\0\0!\x01\0\0\0,\0\0\0\0\0\0\0\0\0\0\0\0\0\0\0\0\0\0\0\0\0\0\0\0\0\x01\x88\x13\0\0\0\
@@ -71,6 +76,19 @@ const ROWS_OF_EIGHT: &[u8] =
     b"d\0\0\0\x1e\x01\0\0\0+\0\0\0\0\0\0\0\0\0\x08\0\0\0\0\0\x01\0\x02\0\x02\x03\0\x05\0\0\0\
     \x01a\x02\x06\0\0\0";
 
+/// An event of rows of the number 7 that puts the one row 5 and `a`.
+const INSERT: &[u8] =
+    b"d\0\0\0\x1e\x01\0\0\0&\0\0\0\0\0\0\0\0\0\x07\0\0\0\0\0\x01\0\x02\0\x02\x03\0\x05\0\0\0\
+    \x01a";
+
+/// Its first ten bytes.
+const BEGUN_INSERT: &[u8] = b"d\0\0\0\x1e\x01\0\0\0&";
+
+/// An event of rows of the number 7 that turns the row 5 and `a` into 50 and `a`.
+const UPDATE: &[u8] =
+    b"d\0\0\0\x1f\x01\0\0\0.\0\0\0\0\0\0\0\0\0\x07\0\0\0\0\0\x01\0\x02\0\x02\x03\x03\0\x05\0\
+    \0\0\x01a\0\x32\0\0\0\x01a";
+
 /// The event that ends a transaction.
 const XID: &[u8] = b"d\0\0\0\x10\x01\0\0\0\x1b\0\0\0\0\0\0\0\0\0\0\0\0\0\0\0\0\0";
 
@@ -80,6 +98,10 @@ pub const WITHOUT_ENTRIES: &[&[u8]] = &[FORMAT, EMPTY_BASE];
 /// The statements `drop table t` (time 100) and `drop table s` (time 101) in `vt_c`, of the GTIDs
 /// 1 and 2.
 pub const LOG: &[&[u8]] = &[FORMAT, EMPTY_BASE, FIRST_GTID, DROP_T, SECOND_GTID, DROP_S];
+
+/// The first statement, and the front of a second one that is too large to be sent.
+pub const BEFORE_LARGE: [&[u8]; 6] =
+    [FORMAT, EMPTY_BASE, FIRST_GTID, DROP_T, SECOND_GTID, LARGE_HEAD];
 
 /// It without its second statement.
 pub const FIRST_ALONE: &[&[u8]] = &[FORMAT, EMPTY_BASE, FIRST_GTID, DROP_T];
@@ -113,7 +135,28 @@ pub const NO_ROWS: &[&[u8]] = &[FORMAT, EMPTY_BASE, FIRST_GTID, BEGIN, XID];
 /// A transaction that puts two rows into the table t: 5 and `a`, and 6 and NULL.
 pub const TWO_ROWS: &[&[u8]] = &[FORMAT, EMPTY_BASE, FIRST_GTID, BEGIN, TABLE_MAP, ROWS, XID];
 
-/// It where the rows are those of a table number that no table map tells.
+/// A transaction that puts the row 5 and `a` into the table t.
+pub const ONE_ROW: &[&[u8]] = &[FORMAT, EMPTY_BASE, FIRST_GTID, BEGIN, TABLE_MAP, INSERT, XID];
+
+/// A transaction that turns that row into 50 and `a`.
+pub const UPDATED: &[&[u8]] = &[FORMAT, EMPTY_BASE, FIRST_GTID, BEGIN, TABLE_MAP, UPDATE, XID];
+
+/// The first one, and another that is cut ten bytes into its rows.
+pub const CUT_ROWS: &[&[u8]] = &[
+    FORMAT,
+    EMPTY_BASE,
+    FIRST_GTID,
+    BEGIN,
+    TABLE_MAP,
+    INSERT,
+    XID,
+    SECOND_GTID,
+    BEGIN,
+    TABLE_MAP,
+    BEGUN_INSERT,
+];
+
+/// Two rows where the rows are those of a table number that no table map tells.
 pub const UNMAPPED_ROWS: &[&[u8]] = &[
     FORMAT,
     EMPTY_BASE,

@@ -1,11 +1,13 @@
 //! A request is refused by name.
 
 use crate::case::{CASE, Case, check, check_words};
+use crate::logs::TABLE;
 use crate::requests::{
-    ALL_SHARDS, COPY, CUT, DOTS, MANY_HEAD, MOST_HEAD, NEEDS_SHARD, NO_MESSAGE, NO_SHARD, TOO_LONG,
-    WITH_BEAT, WITH_RULE, ZERO,
+    ALL_SHARDS, BAD_PATTERN, BAD_RULE, COPY, CUT, DOTS, MANY_HEAD, MOST_HEAD, NEEDS_SHARD, NO_MESSAGE,
+    NO_SHARD, SECOND_BAD_PATTERN, SELECT_ON_PATTERN, TOO_LONG, UNBOUND, WITH_BEAT, ZERO,
 };
 use std::alloc::{AllocError, Global};
+use vs_outside::FeedAnswer;
 
 /// A request that is refused.
 const REFUSED: Case<'static> = Case { number: 3, ..CASE };
@@ -43,7 +45,7 @@ fn a_frame_is_refused(rt: HostRuntime) -> Result<(), AllocError> {
     check(&rt, rt.alloc(), &FRAMES)
 }
 
-static ENTRIES: [Case<'static>; 7] = [
+static ENTRIES: [Case<'static>; 6] = [
     Case {
         input: NEEDS_SHARD,
         line: "request: NeedsShard 0",
@@ -70,11 +72,6 @@ static ENTRIES: [Case<'static>; 7] = [
         ..REFUSED
     },
     Case {
-        input: WITH_RULE,
-        line: "request: NotBuilt 0",
-        ..REFUSED
-    },
-    Case {
         input: WITH_BEAT,
         line: "request: NotBuilt 0",
         ..REFUSED
@@ -84,6 +81,68 @@ static ENTRIES: [Case<'static>; 7] = [
 #[test]
 fn an_entry_is_refused(rt: HostRuntime) -> Result<(), AllocError> {
     check(&rt, rt.alloc(), &ENTRIES)
+}
+
+static RULES: [Case<'static>; 8] = [
+    Case {
+        what: "a match that is no pattern",
+        input: BAD_PATTERN,
+        line: "request: BadPattern 0",
+        ..REFUSED
+    },
+    Case {
+        what: "it, before the log is fetched",
+        input: BAD_PATTERN,
+        fetch_fails: true,
+        line: "request: BadPattern 0",
+        ..REFUSED
+    },
+    Case {
+        what: "the second match",
+        input: SECOND_BAD_PATTERN,
+        line: "request: BadPattern 1",
+        ..REFUSED
+    },
+    Case {
+        what: "a filter that is no select",
+        input: BAD_RULE,
+        line: "request: BadRule 0 6",
+        ..REFUSED
+    },
+    Case {
+        what: "a select on a pattern",
+        input: SELECT_ON_PATTERN,
+        line: "request: BadRule 0 0",
+        ..REFUSED
+    },
+    Case {
+        what: "a column that the table lacks",
+        input: UNBOUND,
+        schema: TABLE,
+        line: "request: Unbound 0",
+        ..REFUSED
+    },
+    Case {
+        what: "it, before the log is read",
+        input: UNBOUND,
+        schema: TABLE,
+        feed: &[FeedAnswer::Fail],
+        line: "request: Unbound 0",
+        ..REFUSED
+    },
+    Case {
+        what: "a schema text, before the rules are bound to it",
+        input: UNBOUND,
+        schema: b"column id int",
+        number: 16,
+        line: "bad schema c/0 line 1",
+        ..REFUSED
+    },
+];
+
+#[test]
+fn a_rule_is_refused(rt: HostRuntime) -> Result<(), AllocError> {
+    check(&rt, rt.alloc(), &RULES)
 }
 
 /// The entry for a shard of the keyspace c whose name is a number below 100.

@@ -2,18 +2,18 @@
 
 use crate::case::{CASE, Case, check};
 use crate::logs::{
-    BAD_LENGTH, BESIDE_OTHERS, CHECKSUMMED, EMPTY_TRANSACTION, FAR, FIRST_ALONE, FIRST_FRAME,
+    BAD_LENGTH, BEFORE_LARGE, BESIDE_OTHERS, CHECKSUMMED, EMPTY_TRANSACTION, FAR, FIRST_ALONE, FIRST_FRAME,
     FRAMES, NO_ROWS, PURGED, PURGED_UNFLAGGED, SECOND_FRAME, TABLE, TWO_ROWS, UNMAPPED_ROWS,
     WITHOUT_ENTRIES,
 };
 use crate::requests::{
-    BEHIND_FIRST, BEHIND_FOUR, BEHIND_OTHERS, BEHIND_TEN, FROM_THE_END, UNKNOWN, WIDE_HEAD,
-    WITH_MORE,
+    BEHIND_FIRST, BEHIND_FOUR, BEHIND_OTHERS, BEHIND_TEN, FROM_THE_END, UNBOUND, UNKNOWN, WIDE_HEAD,
+    WITH_MORE, WITH_RULE,
 };
 use std::alloc::{AllocError, Global};
 use vs_outside::{FeedAnswer, SinkAnswer};
 
-static WHOLE_LOGS: [Case<'static>; 6] = [
+static WHOLE_LOGS: [Case<'static>; 8] = [
     Case {
         what: "a log without an entry",
         log: WITHOUT_ENTRIES,
@@ -45,6 +45,18 @@ static WHOLE_LOGS: [Case<'static>; 6] = [
         what: "a transaction that changes no row",
         log: NO_ROWS,
         written: EMPTY_TRANSACTION,
+        ..CASE
+    },
+    Case {
+        what: "statements, whatever the rules",
+        input: WITH_RULE,
+        written: FRAMES,
+        ..CASE
+    },
+    Case {
+        what: "a select on a table that the schema lacks",
+        input: UNBOUND,
+        written: FRAMES,
         ..CASE
     },
 ];
@@ -199,7 +211,7 @@ fn the_reason_of_an_end_is_told(rt: HostRuntime) -> Result<(), AllocError> {
     check(&rt, rt.alloc(), &FAULTS)
 }
 
-static CHANGES: [Case<'static>; 7] = [
+static CHANGES: [Case<'static>; 6] = [
     Case {
         what: "a schema text",
         schema: b"column id int",
@@ -215,14 +227,6 @@ static CHANGES: [Case<'static>; 7] = [
         ..CASE
     },
     Case {
-        what: "rows that are due",
-        log: TWO_ROWS,
-        schema: TABLE,
-        number: 6,
-        line: "bad log c/0 at 112: not built",
-        ..CASE
-    },
-    Case {
         what: "rows that are not due",
         input: BEHIND_FIRST,
         log: TWO_ROWS,
@@ -234,8 +238,6 @@ static CHANGES: [Case<'static>; 7] = [
         input: FROM_THE_END,
         log: TWO_ROWS,
         schema: TABLE,
-        number: 6,
-        line: "bad log c/0 at 112: not built",
         ..CASE
     },
     Case {
@@ -260,4 +262,32 @@ static CHANGES: [Case<'static>; 7] = [
 #[test]
 fn rows_are_read_under_the_schema_text(rt: HostRuntime) -> Result<(), AllocError> {
     check(&rt, rt.alloc(), &CHANGES)
+}
+
+/// How many bytes a message may have.
+const MOST: usize = 8_388_608;
+
+#[test]
+fn a_statement_that_is_too_large_is_told_at_its_place(rt: HostRuntime) -> Result<(), AllocError> {
+    let alloc = rt.alloc();
+    let text = vec![in alloc; b'a'; MOST]?;
+    let [format, base, first, drop, second, head] = BEFORE_LARGE;
+    let log = [format, base, first, drop, second, head, text.as_slice()];
+    let due = Case {
+        what: "too large",
+        log: &log,
+        number: 6,
+        line: "bad log c/0 at 205: too large",
+        written: FIRST_FRAME,
+        ..CASE
+    };
+    let before = Case {
+        what: "such a one before the end",
+        input: FROM_THE_END,
+        number: 0,
+        line: "",
+        written: b"",
+        ..due
+    };
+    check(&rt, alloc, &[due, before])
 }

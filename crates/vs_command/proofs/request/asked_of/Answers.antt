@@ -1,12 +1,6 @@
-use Rattle.std.proofs.Common.{◌≡◌, ◌==◌, ◌∙◌, ◌≤◌, true, false, length, refl, sym, arith, ap}
-use Rattle.vs_command.proofs.RequestLemmas.{is_plain, last_one, not_built_rules, not_built_flags}
+use Rattle.std.proofs.Common.{◌∙◌, ◌≤◌, length, refl, sym, arith, ap}
+use Rattle.vs_command.proofs.RequestLemmas.{is_plain, last_one, not_built_flags}
 use Rattle.vs_command.proofs.request.asked_of.Goals as goal
-
-pub returns-then-not-is_empty-clause-not_built : goal.returns-then-not-is_empty-clause-not_built
-returns-then-not-is_empty-clause-not_built c =
-    let few : length c.args.request.entries ≤ 1 = omega (arith, c.if-len-gt1.false, c.len.ensures, ap (λ l. length l) c.into_vec-entries.ensures) in
-    let rules : false ≡ (length c.args.request.rules == 0) = sym (ap (λ l. length l == 0) (sym c.as_slice.ensures) ∙ sym c.is_empty.ensures ∙ c.if-not-is_empty.true) in
-    (0, refl, not_built_rules c.args.request c.requires.some few rules)
 
 pub returns-then-not-has_no_flags-clause-not_built : goal.returns-then-not-has_no_flags-clause-not_built
 returns-then-not-has_no_flags-clause-not_built c =
@@ -17,5 +11,4 @@ pub returns-in-Some-asked_by-clause-asks : goal.returns-in-Some-asked_by-clause-
 returns-in-Some-asked_by-clause-asks c =
     let few : length c.args.request.entries ≤ 1 = omega (arith, c.if-len-gt1.false, c.len.ensures, ap (λ l. length l) c.into_vec-entries.ensures) in
     let one = last_one c.args.request.entries c.pop.new.self.items c.in-Some.wanted (sym c.into_vec-entries.ensures ∙ c.in-Some.ensures.items) few in
-    let rules : true ≡ (length c.args.request.rules == 0) = sym (ap (λ l. length l == 0) (sym c.as_slice.ensures) ∙ sym c.is_empty.ensures ∙ c.if-not-is_empty.false) in
-    is_plain c.args.request c.in-Some.wanted c.in-Some-asked_by.asked.name c.in-Some-asked_by.asked.start one c.in-Some-asked_by.ensures rules (sym (sym c.has_no_flags.ensures ∙ c.if-not-has_no_flags.false))
+    is_plain c.args.request c.in-Some.wanted c.in-Some-asked_by.asked.name c.in-Some-asked_by.asked.start c.in-Some-asked_by.asked.rules one c.in-Some-asked_by.ensures (sym (sym c.has_no_flags.ensures ∙ c.if-not-has_no_flags.false))

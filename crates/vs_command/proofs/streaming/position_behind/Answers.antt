@@ -1,7 +1,7 @@
 use Rattle.std.proofs.Common.{◌<◌, ◌∙◌, ap, sym, take, length, arith}
 use Rattle.vs_gtid.specs.Joins.{added}
 use Rattle.vs_command.specs.Fetched.{entries_of}
-use Rattle.vs_command.proofs.BuiltLemmas.{entries_of-next}
+use Rattle.vs_command.proofs.SizeLemmas.{entries_of-next}
 use Rattle.vs_command.proofs.SendLemmas.{position_after-more}
 use Rattle.vs_command.proofs.streaming.position_behind.Goals as goal
 
