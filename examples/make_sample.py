@@ -7,7 +7,8 @@ Usage: examples/make_sample.py                                     the sample sh
 The file is a MySQL binlog of version 4, written with binlog_checksum=NONE: the magic number, a format
 description as MySQL 8.0 writes it, an empty PREVIOUS_GTIDS event, and a GTID and a QUERY event for each
 statement; `mysqlbinlog` prints it. Statements stand on lines of their own, and their schema is that of the
-keyspace (`vt_` and its name); the GTIDs go on from 1, and the times from 1,700,000,001.
+keyspace (`vt_` and its name); the GTIDs go on from 1, and the times from 1,700,000,001. The sample has
+transactions that change rows, too: a table map and rows events between a BEGIN and an XID event.
 """
 import os
 import struct
@@ -43,22 +44,53 @@ def put_query(log, schema, text, time):
     event(log, time, 2, head + schema + bytes([0]) + text)
 
 
-def log_of(statements):
-    """The bytes of a log of statements, each with its schema."""
+CUSTOMER = struct.pack("<IH", 108, 0)
+WRITE, UPDATE, DELETE = 30, 31, 32
+
+
+def customer(id, name):
+    """An image of a row of the table customer: which columns are NULL, and the values of the others."""
+    if name is None:
+        return bytes([0xfe]) + struct.pack("<q", id)
+    return bytes([0xfc]) + struct.pack("<q", id) + bytes([len(name)]) + name
+
+
+def put_customer_map(log, time):
+    names = bytes([11]) + b"vt_commerce\0" + bytes([8]) + b"customer\0"
+    # bigint, and varchar of at most 160 bytes, which may be NULL
+    event(log, time, 19, CUSTOMER + struct.pack("<H", 1) + names + bytes([2, 8, 15, 2, 160, 0, 2]))
+
+
+def put_changes(log, changes, time):
+    """A transaction that changes rows of the table customer, each change a statement of its own."""
+    put_query(log, b"vt_commerce", b"BEGIN", time)
+    for kind, images in changes:
+        present = bytes([0xff] * (2 if kind == UPDATE else 1))
+        put_customer_map(log, time)
+        event(log, time, kind, CUSTOMER + struct.pack("<HH", 1, 2) + bytes([2]) + present + b"".join(images))
+    event(log, time, 16, struct.pack("<Q", time))
+
+
+def log_of(transactions):
+    """The bytes of a log of transactions: a statement with its schema, or changes of rows."""
     log = bytearray(b"\xfebin")
     put_format_description(log)
     event(log, START, 35, struct.pack("<Q", 0))
-    for number, (schema, text) in enumerate(statements, 1):
+    for number, transaction in enumerate(transactions, 1):
         put_gtid(log, number, START + number)
-        put_query(log, schema, text, START + number)
+        if isinstance(transaction, list):
+            put_changes(log, transaction, START + number)
+        else:
+            put_query(log, *transaction, START + number)
     return bytes(log)
 
 
 SAMPLE = [
     (b"vt_commerce", b"create table customer (id bigint primary key, name varchar(40))"),
-    (b"vt_commerce", b"/* by hand */ alter table customer add column born date"),
+    [(WRITE, [customer(1, b"Ada"), customer(2, None)])],
+    [(UPDATE, [customer(2, None), customer(2, b"Grace")]), (DELETE, [customer(1, b"Ada")])],
     (b"mysql", b"create table audit (id int)"),
-    (b"vt_commerce", b"drop table customer"),
+    (b"vt_commerce", b"/* by hand */ drop table customer"),
 ]
 
 
