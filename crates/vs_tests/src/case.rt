@@ -19,6 +19,8 @@ pub struct Case<'a> {
     pub input: &'a [u8],
     /// The log, event by event.
     pub log: &'a [&'a [u8]],
+    /// How many bytes `a` stand behind these.
+    pub padding: usize,
     pub schema: &'a [u8],
     pub input_fails: bool,
     pub fetch_fails: bool,
@@ -34,6 +36,7 @@ pub const CASE: Case<'static> = Case {
     what: "",
     input: REQUEST,
     log: LOG,
+    padding: 0,
     schema: b"",
     input_fails: false,
     fetch_fails: false,
@@ -49,12 +52,14 @@ fn name_of(alloc: Global) -> Result<ShardName, AllocError> {
     ShardName::new(keyspace, Text::from_bytes(alloc, b"0")?).ok_or(AllocError)
 }
 
-/// The bytes of the events, one behind another.
-fn log_of(alloc: Global, events: &[&[u8]]) -> Result<Vec<u8>, AllocError> {
+/// The bytes of the events, one behind another, and of what stands behind them.
+fn log_of(alloc: Global, events: &[&[u8]], padding: usize) -> Result<Vec<u8>, AllocError> {
     let mut log = Vec::new(alloc);
     for event in events {
         log.extend_from_slice(event)?;
     }
+    let behind = vec![in alloc; b'a'; padding]?;
+    log.extend_from_slice(behind.as_slice())?;
     Ok(log)
 }
 
@@ -71,7 +76,7 @@ fn add_shard(alloc: Global, tablets: &mut MemTablets, case: &Case<'_>) -> Result
     if !names_keyspace(name.keyspace.as_bytes()) || !names_shard(name.shard.as_bytes()) {
         return Err(AllocError);
     }
-    let log = log_of(alloc, case.log)?;
+    let log = log_of(alloc, case.log, case.padding)?;
     tablets.add(name, &log, case.schema, scripts_of(alloc, case.feed)?)
 }
 

@@ -100,8 +100,14 @@ pub const WITHOUT_ENTRIES: &[&[u8]] = &[FORMAT, EMPTY_BASE];
 pub const LOG: &[&[u8]] = &[FORMAT, EMPTY_BASE, FIRST_GTID, DROP_T, SECOND_GTID, DROP_S];
 
 /// The first statement, and the front of a second one that is too large to be sent.
-pub const BEFORE_LARGE: [&[u8]; 6] =
-    [FORMAT, EMPTY_BASE, FIRST_GTID, DROP_T, SECOND_GTID, LARGE_HEAD];
+pub const BEFORE_LARGE: &[&[u8]] = &[
+    FORMAT,
+    EMPTY_BASE,
+    FIRST_GTID,
+    DROP_T,
+    SECOND_GTID,
+    LARGE_HEAD,
+];
 
 /// It without its second statement.
 pub const FIRST_ALONE: &[&[u8]] = &[FORMAT, EMPTY_BASE, FIRST_GTID, DROP_T];
@@ -136,10 +142,14 @@ pub const NO_ROWS: &[&[u8]] = &[FORMAT, EMPTY_BASE, FIRST_GTID, BEGIN, XID];
 pub const TWO_ROWS: &[&[u8]] = &[FORMAT, EMPTY_BASE, FIRST_GTID, BEGIN, TABLE_MAP, ROWS, XID];
 
 /// A transaction that puts the row 5 and `a` into the table t.
-pub const ONE_ROW: &[&[u8]] = &[FORMAT, EMPTY_BASE, FIRST_GTID, BEGIN, TABLE_MAP, INSERT, XID];
+pub const ONE_ROW: &[&[u8]] = &[
+    FORMAT, EMPTY_BASE, FIRST_GTID, BEGIN, TABLE_MAP, INSERT, XID,
+];
 
 /// A transaction that turns that row into 50 and `a`.
-pub const UPDATED: &[&[u8]] = &[FORMAT, EMPTY_BASE, FIRST_GTID, BEGIN, TABLE_MAP, UPDATE, XID];
+pub const UPDATED: &[&[u8]] = &[
+    FORMAT, EMPTY_BASE, FIRST_GTID, BEGIN, TABLE_MAP, UPDATE, XID,
+];
 
 /// The first one, and another that is cut ten bytes into its rows.
 pub const CUT_ROWS: &[&[u8]] = &[

@@ -3,8 +3,9 @@
 use crate::case::{CASE, Case, check, check_words};
 use crate::logs::TABLE;
 use crate::requests::{
-    ALL_SHARDS, BAD_PATTERN, BAD_RULE, COPY, CUT, DOTS, MANY_HEAD, MOST_HEAD, NEEDS_SHARD, NO_MESSAGE,
-    NO_SHARD, SECOND_BAD_PATTERN, SELECT_ON_PATTERN, TOO_LONG, UNBOUND, WITH_BEAT, ZERO,
+    ALL_SHARDS, BAD_PATTERN, BAD_RULE, COPY, CUT, DOTS, MANY_HEAD, MOST_HEAD, NEEDS_SHARD,
+    NO_MESSAGE, NO_SHARD, SECOND_BAD_PATTERN, SELECT_ON_PATTERN, TOO_LONG, UNBOUND, WITH_BEAT,
+    ZERO,
 };
 use std::alloc::{AllocError, Global};
 use vs_outside::FeedAnswer;

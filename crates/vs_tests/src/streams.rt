@@ -2,13 +2,13 @@
 
 use crate::case::{CASE, Case, check};
 use crate::logs::{
-    BAD_LENGTH, BEFORE_LARGE, BESIDE_OTHERS, CHECKSUMMED, EMPTY_TRANSACTION, FAR, FIRST_ALONE, FIRST_FRAME,
-    FRAMES, NO_ROWS, PURGED, PURGED_UNFLAGGED, SECOND_FRAME, TABLE, TWO_ROWS, UNMAPPED_ROWS,
-    WITHOUT_ENTRIES,
+    BAD_LENGTH, BEFORE_LARGE, BESIDE_OTHERS, CHECKSUMMED, EMPTY_TRANSACTION, FAR, FIRST_ALONE,
+    FIRST_FRAME, FRAMES, NO_ROWS, PURGED, PURGED_UNFLAGGED, SECOND_FRAME, TABLE, TWO_ROWS,
+    UNMAPPED_ROWS, WITHOUT_ENTRIES,
 };
 use crate::requests::{
-    BEHIND_FIRST, BEHIND_FOUR, BEHIND_OTHERS, BEHIND_TEN, FROM_THE_END, UNBOUND, UNKNOWN, WIDE_HEAD,
-    WITH_MORE, WITH_RULE,
+    BEHIND_FIRST, BEHIND_FOUR, BEHIND_OTHERS, BEHIND_TEN, FROM_THE_END, UNBOUND, UNKNOWN,
+    WIDE_HEAD, WITH_MORE, WITH_RULE,
 };
 use std::alloc::{AllocError, Global};
 use vs_outside::{FeedAnswer, SinkAnswer};
@@ -264,30 +264,29 @@ fn rows_are_read_under_the_schema_text(rt: HostRuntime) -> Result<(), AllocError
     check(&rt, rt.alloc(), &CHANGES)
 }
 
-/// How many bytes a message may have.
-const MOST: usize = 8_388_608;
+/// A statement of over 8,388,608 bytes behind a small one.
+const LARGE: Case<'static> = Case {
+    log: BEFORE_LARGE,
+    padding: 8_388_608,
+    ..CASE
+};
 
-#[test]
-fn a_statement_that_is_too_large_is_told_at_its_place(rt: HostRuntime) -> Result<(), AllocError> {
-    let alloc = rt.alloc();
-    let text = vec![in alloc; b'a'; MOST]?;
-    let [format, base, first, drop, second, head] = BEFORE_LARGE;
-    let log = [format, base, first, drop, second, head, text.as_slice()];
-    let due = Case {
+static TOO_LARGE: [Case<'static>; 2] = [
+    Case {
         what: "too large",
-        log: &log,
         number: 6,
         line: "bad log c/0 at 205: too large",
         written: FIRST_FRAME,
-        ..CASE
-    };
-    let before = Case {
+        ..LARGE
+    },
+    Case {
         what: "such a one before the end",
         input: FROM_THE_END,
-        number: 0,
-        line: "",
-        written: b"",
-        ..due
-    };
-    check(&rt, alloc, &[due, before])
+        ..LARGE
+    },
+];
+
+#[test]
+fn a_statement_that_is_too_large_is_told_at_its_place(rt: HostRuntime) -> Result<(), AllocError> {
+    check(&rt, rt.alloc(), &TOO_LARGE)
 }

@@ -68,7 +68,7 @@ returns-in-Err-OpenFault-clause-due g c = told_always _ (g.T.Tablets.cluster c.a
 pub returns-clause-due : goal.returns-clause-due
 returns-clause-due g c =
     let opened = subst (λ m. IfSome (g.T.Tablets.cluster c.args.tablets.now) (λ k. HasBinding (find_shard k c.args.asked.name) m)) c.requires
-        (c.in-Err-FeedFault.ensures.feed_opened (ap (λ e. Err e) c.in-Err-FeedFault.field-0-is)) in
+    (c.in-Err-FeedFault.ensures.feed_opened (ap (λ e. Err e) c.in-Err-FeedFault.field-0-is)) in
     told_so _ _ (g.T.Tablets.cluster c.args.tablets.now) (λ k p. ◌⊎◌.inl (refl, p)) opened
 
 pub returns-in-Ok-Some-clause-sent : goal.returns-in-Ok-Some-clause-sent
