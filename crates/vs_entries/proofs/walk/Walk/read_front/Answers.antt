@@ -1,4 +1,3 @@
-use Rattle.std.specs.Prelude.{◌⊎◌}
 use Rattle.vs_entries.proofs.OverLemmas.{front_back, magic_starts, magic_wanting}
 use Rattle.vs_entries.proofs.walk.Walk.read_front.Goals as goal
 
