@@ -1,11 +1,13 @@
 ghost use Rattle.std.specs.Prelude.{◌≡◌, IfOk, drop, nat_le};
-ghost use Rattle.std.specs.Option.{option_copied};
+ghost use Rattle.std.specs.List.{slice_get};
+ghost use Rattle.std.specs.Option.{option_copied, option_map};
 ghost use Rattle.vs_base.specs.Cells.{cell_size, row_size};
-ghost use Rattle.vs_base.specs.Keys.{cell_at, project};
+ghost use Rattle.vs_base.specs.Keys.{cell_at, key_kinds, key_order, project};
 ghost use Rattle.vs_tables.specs.Parts.{fits_limits, part_at, part_of, parts_of};
 
 use std::alloc::Global;
-use vs_base::{Cell, ColumnKind, Image, List, OutOfMemory, Text, number_of};
+use std::cmp::Ordering;
+use vs_base::{Cell, Column, ColumnKind, Image, List, OutOfMemory, Table, Text, number_of};
 
 /// A cell of a key, read as its column is ordered.
 #[derive(Debug, Drop, PartialEq, Eq, PartialOrd, Ord)]
@@ -13,6 +15,28 @@ pub enum KeyPart {
     Null,
     Number(i128),
     Bytes(Text),
+}
+
+fn kind_at(columns: &[Column], place: usize) -> Option<ColumnKind>
+    ensures { result ≡ option_map (λ column. column.kind) (slice_get columns.now place) }
+{
+    match columns.get(place) {
+        Some(column) => Some(column.kind),
+        None => None,
+    }
+}
+
+/// The kinds of the columns of a table's key.
+pub fn key_kinds(alloc: Global, table: &Table) -> Result<List<ColumnKind>, OutOfMemory>
+    ensures { IfOk result (λ kinds. kinds ≡ key_kinds table.now) }
+{
+    let mut kinds = List::new(alloc);
+    for place in table.key.as_slice() {
+        if let Some(kind) = kind_at(table.columns.as_slice(), *place) {
+            kinds.push(kind)?;
+        }
+    }
+    Ok(kinds)
 }
 
 fn part_of(alloc: Global, kind: ColumnKind, cell: &Cell) -> Result<KeyPart, OutOfMemory>
@@ -85,13 +109,29 @@ pub(crate) fn row_parts(
 ) -> Result<List<KeyPart>, OutOfMemory>
     ensures { IfOk result (λ parts. parts ≡ parts_of kinds.now (project places.now row.now)) }
 {
-    let mut parts = List::new(alloc);
+    let mut parts = Vec::with_capacity(alloc, places.len())?;
     let mut left = kinds;
     for place in places {
         parts.push(part_of_row(alloc, left.first(), row.cells(), *place)?)?;
         left = behind_first(left);
     }
-    Ok(parts)
+    Ok(List::from_vec(parts))
+}
+
+/// The key of a row, which has its cells at these places, against a key, in the order of the key's columns.
+#[tactic(auto, using(crate::proofs::PartLemmas::ordered_alike))]
+pub fn compare_keys(
+    alloc: Global,
+    kinds: &[ColumnKind],
+    places: &[usize],
+    row: &Image,
+    key: &Image,
+) -> Result<Ordering, OutOfMemory>
+    ensures { IfOk result (λ order. order ≡ key_order kinds.now (project places.now row.now) key.now) }
+{
+    let own = row_parts(alloc, kinds, places, row)?;
+    let other = key_parts(alloc, kinds, key.cells())?;
+    Ok(own.cmp(&other))
 }
 
 fn size_at(row: &[Cell], place: usize) -> usize

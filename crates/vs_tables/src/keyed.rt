@@ -1,10 +1,8 @@
 ghost use Rattle.std.specs.Prelude.{◌≡◌, IfErr, IfOk, None, OnOk, Some, true};
 ghost use Rattle.std.specs.BTreeMap.Range.{entries_between};
-ghost use Rattle.std.specs.List.{slice_get};
 ghost use Rattle.std.specs.Map.{values_of};
-ghost use Rattle.std.specs.Option.{option_copied, option_map};
+ghost use Rattle.std.specs.Option.{option_copied};
 ghost use Rattle.std.specs.declared.ops.Bound.{Bound};
-ghost use Rattle.vs_base.specs.Keys.{key_kinds};
 ghost use Rattle.vs_tables.specs.Parts.{fits_limits, parts_of};
 ghost use Rattle.vs_tables.specs.Changes.{
   RowFaultTells,
@@ -24,13 +22,13 @@ ghost use Rattle.vs_tables.specs.Rows.{
   row_key,
 };
 
-use crate::key::{KeyPart, fits_limits, key_parts, row_parts};
+use crate::key::{KeyPart, fits_limits, key_kinds, key_parts, row_parts};
 use std::alloc::{AllocError, Global};
 use std::collections::BTreeMap;
 use std::collections::btree_map::Range;
 use std::marker::Model;
 use std::ops::Bound;
-use vs_base::{Change, Column, ColumnKind, Image, List, OutOfMemory, Table, Text};
+use vs_base::{Change, ColumnKind, Image, List, OutOfMemory, Table, Text};
 
 /// The rows of a table by their keys.
 #[derive(Debug, Drop)]
@@ -71,28 +69,6 @@ impl From<AllocError> for Unfit {
     fn from(_refused: AllocError) -> Unfit {
         Unfit::Memory
     }
-}
-
-fn kind_at(columns: &[Column], place: usize) -> Option<ColumnKind>
-    ensures { result ≡ option_map (λ column. column.kind) (slice_get columns.now place) }
-{
-    match columns.get(place) {
-        Some(column) => Some(column.kind),
-        None => None,
-    }
-}
-
-/// The kinds of a table's key.
-fn key_kinds(alloc: Global, table: &Table) -> Result<List<ColumnKind>, OutOfMemory>
-    ensures { IfOk result (λ kinds. kinds ≡ key_kinds table.now) }
-{
-    let mut kinds = List::new(alloc);
-    for place in table.key.as_slice() {
-        if let Some(kind) = kind_at(table.columns.as_slice(), *place) {
-            kinds.push(kind)?;
-        }
-    }
-    Ok(kinds)
 }
 
 /// The rows behind a key.

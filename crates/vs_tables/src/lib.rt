@@ -8,7 +8,7 @@ mod tables;
 #[cfg(test)]
 mod tests;
 
-pub use key::KeyPart;
+pub use key::{KeyPart, compare_keys, key_kinds};
 pub use keyed::KeyedRows;
 pub use refusal::TableRefusal;
 pub use tables::Tables;

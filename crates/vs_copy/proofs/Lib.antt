@@ -1,0 +1,10 @@
+mod ToldLemmas
+mod KeyLemmas
+mod RowLemmas
+mod TableLemmas
+mod KeyedLemmas
+mod ChunkLemmas
+mod NextLemmas
+mod BoundLemmas
+mod FindLemmas
+mod ClientLemmas

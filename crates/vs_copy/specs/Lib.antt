@@ -1,0 +1,6 @@
+pub mod LastKeys
+pub mod Copying
+pub mod CopiedTables
+pub mod Chunks
+pub mod Answers
+pub mod Laws

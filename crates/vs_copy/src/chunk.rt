@@ -1,0 +1,105 @@
+ghost use Rattle.std.specs.Prelude.{◌≡◌, ◌≤◌, IfOk, None, Some, map, min};
+ghost use Rattle.std.specs.List.{filter_map, last_or};
+ghost use Rattle.std.specs.Map.{values_of};
+ghost use Rattle.std.specs.Option.{option_copied, option_map};
+ghost use Rattle.vs_base.specs.Cells.{row_size};
+ghost use Rattle.vs_base.specs.Keys.{project};
+ghost use Rattle.vs_model.specs.Copy.{chunk_of};
+ghost use Rattle.vs_copy.specs.Chunks.{has_room, told_row};
+
+use crate::copied::CopiedTable;
+use std::alloc::Global;
+use std::collections::btree_map::Range;
+use vs_base::{Cell, Image, LastKey, List, OutOfMemory, Text};
+use vs_select::BoundSelect;
+use vs_tables::KeyPart;
+
+/// The rows of a table that a copy tells next, as they are picked, and the key of the last of them.
+#[derive(Debug, Drop)]
+pub struct ChunkRows {
+    pub table: Text,
+    pub rows: List<Image>,
+    pub last_key: LastKey,
+}
+
+/// The rows of a chunk, and the last one's key.
+#[derive(Debug, Drop)]
+pub(crate) struct Taken {
+    pub(crate) rows: List<Image>,
+    pub(crate) last: Option<Image>,
+}
+
+/// How many bytes the cells of a chunk may have, where it has more than one row.
+const MOST_BYTES: usize = 4_194_304;
+
+/// The bytes of cells, or one more than a chunk may have where they are no fewer.
+fn counted_size(cells: &[Cell]) -> usize
+    ensures { result ≡ min (row_size cells.now) 4194305 }
+{
+    let mut size = 0usize;
+    for cell in cells {
+        size = size.saturating_add(cell.size()).min(MOST_BYTES + 1);
+    }
+    size
+}
+
+fn has_room(count: usize, size: usize, more: usize) -> bool
+    requires size { size ≤ 4194305 }
+    requires more { more ≤ 4194305 }
+    ensures { result ≡ has_room count size more }
+{
+    count == 0 || (count < 100 && size + more <= MOST_BYTES)
+}
+
+/// The key of a row.
+fn key_of(alloc: Global, table: &CopiedTable, row: &Image) -> Result<Option<Image>, OutOfMemory>
+    ensures { IfOk result (λ key. key ≡ Some (project table.now.table.key row.now)) }
+{
+    let key = BoundSelect {
+        columns: table.table.key.copy(alloc)?,
+        tests: List::new(alloc),
+    };
+    key.take_row(alloc, row)
+}
+
+fn finish(
+    alloc: Global,
+    table: &CopiedTable,
+    rows: List<Image>,
+    last: Option<&Image>,
+) -> Result<Taken, OutOfMemory>
+    ensures rows { IfOk result (λ taken. taken.rows ≡ rows) }
+    ensures last { IfOk result (λ taken. taken.last ≡ option_map (project table.now.table.key) (option_copied last.entry)) }
+{
+    let last = match last {
+        Some(row) => key_of(alloc, table, row)?,
+        None => None,
+    };
+    Ok(Taken { rows, last })
+}
+
+/// Of rows, with their keys, those that are picked, as many as a chunk may have.
+pub(crate) fn take_rows(
+    alloc: Global,
+    table: &CopiedTable,
+    rows: Range<'_, List<KeyPart>, Image>,
+) -> Result<Taken, OutOfMemory>
+    ensures rows { IfOk result (λ taken. taken.rows ≡ map (λ row. row.1) (chunk_of (filter_map (told_row table.now) (values_of rows.entry)))) }
+    ensures last { IfOk result (λ taken. taken.last ≡ last_or None (map (λ row. row.0) (chunk_of (filter_map (told_row table.now) (values_of rows.entry))))) }
+{
+    let mut taken = List::new(alloc);
+    let mut last = None;
+    let mut size = 0usize;
+    for (_, row) in rows {
+        if let Some(told) = table.picked.select.take_row(alloc, row)? {
+            let more = counted_size(told.cells());
+            if !has_room(taken.as_slice().len(), size, more) {
+                return finish(alloc, table, taken, last);
+            }
+            size += more;
+            taken.push(told)?;
+            last = Some(row);
+        }
+    }
+    finish(alloc, table, taken, last)
+}
