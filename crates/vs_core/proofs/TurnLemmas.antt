@@ -1,0 +1,218 @@
+-- What a turn makes of the core, part by part.
+use Rattle.std.proofs.Common.{◌≡◌, ◌⊎◌, ℕ, Bool, true, false, List, [], ◌∷◌, ◌++◌, append-nil, Option, Some, None, Result, Ok, Err, IfOk, ◌&&◌, ◌||◌, ℤ, Vec, if◌then◌else◌, length, nat_lt, slice_get, refl, ap, sym, ◌∙◌, subst, inl, inr, ⊎_elim}
+use Rattle.std.specs.List.{list_all, list_any, remove}
+use Rattle.vs_base.specs.declared.ShardName.{ShardName}
+use Rattle.vs_base.specs.declared.Gtid.{Gtid}
+use Rattle.vs_gtid.specs.declared.JournalValue.{JournalValue}
+use Rattle.vs_gtid.specs.Vectors.{Vector, names, switched}
+use Rattle.vs_gtid.specs.Vectors.Place.{Copying, Streaming}
+use Rattle.vs_model.proofs.Lists.{some_is_not_none, same_some}
+use Rattle.vs_render.specs.Bodies.{HeldBody, Rendered}
+use Rattle.vs_render.specs.declared.room.Room.{Room}
+use Rattle.vs_render.specs.declared.piece.Piece.{Piece}
+use Rattle.vs_render.specs.declared.piece.Piece.TheVariants as piece
+use Rattle.vs_render.specs.declared.piece.EndCause.{EndCause}
+use Rattle.vs_render.specs.declared.piece.EndCause.TheVariants as cause
+use Rattle.vs_vector.specs.Changes.{advanced, advanced_from, advanced_place, moved_to, set_to}
+use Rattle.vs_vector.specs.Places.{most_shards}
+use Rattle.vs_vector.specs.declared.refusal.VectorRefusal.{VectorRefusal}
+use Rattle.vs_vector.specs.declared.refusal.VectorRefusal.TheVariants.{Absent, TooManyIntervals}
+use Rattle.vs_gather.specs.Gathering.{AreWaiting, Arrived, arrival, concerns, waits}
+use Rattle.vs_gather.specs.Gathering.Arrived.{StillWaits, Completes}
+use Rattle.vs_gather.specs.declared.refusal.GatherRefusal.{GatherRefusal}
+use Rattle.vs_core.specs.Choices.{IsHeadAt, held_of, without_head}
+use Rattle.vs_core.specs.Machine.{CoreState, Sent, TurnTold, Turned, arrived_by, at_rest, completed, copied_by, ended_by, failed_by, failures, handled_by, handled_of, moved_by, switched_to, with_next, with_pieces, in_state, is_at_end, chosen_lane, turned}
+use Rattle.vs_core.specs.Machine.Sent.{SentAllCopied}
+use Rattle.vs_core.specs.Machine.TurnTold.{AllCopied, Done, Nothing, Stuck}
+use Rattle.vs_core.specs.Machine.Turned.{Went, Refused}
+use Rattle.vs_core.specs.Spelling.{sent_bytes, stream_bytes}
+use Rattle.vs_core.specs.Rooms.{IsPieceRoom}
+use Rattle.vs_core.specs.Tells.{BringsRoom, HandledSo, IsHandled, IsRested, IsTurned, RoomIsBack, TellsTurn, WentSo, first_piece, lane_piece, next_piece, turn_with}
+use Rattle.vs_core.specs.declared.handled.Handled.{Handled}
+use Rattle.vs_core.specs.declared.handled.Handled.TheVariants as handled
+use Rattle.vs_core.specs.declared.lane.LaneState.TheVariants.{AtEnd, Over}
+use Rattle.vs_render.specs.Bodies.{frame_with}
+use Rattle.vs_proto.specs.Frames.{message_bytes}
+use Rattle.vs_proto.specs.declared.event_kind.TheConstants.{COPY_COMPLETED}
+use Rattle.vs_render.specs.Events.{no_head, plain_event}
+use Rattle.vs_core.specs.declared.turn.Turn.{Turn}
+use Rattle.vs_core.specs.declared.turn.Turn.TheVariants as turn
+use Rattle.vs_core.specs.declared.refusal.CoreRefusal.{CoreRefusal}
+use Rattle.vs_core.specs.declared.refusal.CoreRefusal.TheVariants.{Memory, PositionTooLarge}
+
+-- what is done for a piece leaves the held ones alone
+abbrev pub holding : List (ℕ × Piece) → Turned → Turned
+holding held (Went new sent told) = Went (record new { held = held }) sent told
+holding held (Refused e) = Refused e
+
+abbrev pub with_held : CoreState → List (ℕ × Piece) → CoreState
+with_held s held = record s { held = held }
+
+if_apart : (held : List (ℕ × Piece)) (c : Bool) (a b a_held b_held : Turned) → a_held ≡ holding held a → b_held ≡ holding held b →
+    (if c then a_held else b_held) ≡ holding held (if c then a else b)
+if_apart held true a b a_held b_held is_a is_b = is_a
+if_apart held false a b a_held b_held is_a is_b = is_b
+
+module _ (s : CoreState) (held : List (ℕ × Piece)) (k : ℕ) where
+  moved_apart : (n : ShardName) (time : ℕ) (body : Rendered) (r : Result Vector VectorRefusal) → moved_by (with_held s held) k n time body r ≡ holding held (moved_by s k n time body r)
+  moved_apart n time body (Ok w) = refl
+  moved_apart n time body (Err e) = refl
+
+  copied_apart : (n : ShardName) (time : ℕ) (r : Result Vector VectorRefusal) → copied_by (with_held s held) k n time r ≡ holding held (copied_by s k n time r)
+  copied_apart n time (Ok w) = refl
+  copied_apart n time (Err e) = refl
+
+  failed_apart : (n : ShardName) (c : Bool) → failed_by (with_held s held) k n c ≡ holding held (failed_by s k n c)
+  failed_apart n true = refl
+  failed_apart n false = refl
+
+  arrived_apart : (j : JournalValue) (r : Result Arrived GatherRefusal) → arrived_by (with_held s held) k j r ≡ holding held (arrived_by s k j r)
+  arrived_apart j (Ok (StillWaits kept)) = refl
+  arrived_apart j (Ok (Completes kept)) = if_apart held s.flags.stop_on_reshard _ _ _ _ refl (if_apart held (nat_lt most_shards (length (switched s.vector j))) _ _ _ _ refl refl)
+  arrived_apart j (Err e) = refl
+
+ended_apart : (s : CoreState) (held : List (ℕ × Piece)) (k : ℕ) (n : ShardName) (c : EndCause) → ended_by (with_held s held) k n c ≡ holding held (ended_by s k n c)
+ended_apart s held k n cause.AtEnd = refl
+ended_apart s held k n (cause.OwnJournal j) = arrived_apart (in_state s k Over) held k j (arrival s.vector n j s.kept)
+ended_apart s held k n cause.FeedFault = failed_apart s held k n (nat_lt (failures s n) 3)
+ended_apart s held k n (cause.BadLog offset why) = refl
+ended_apart s held k n (cause.Purged g) = refl
+ended_apart s held k n cause.Memory = refl
+
+handled_apart : (s : CoreState) (held : List (ℕ × Piece)) (k : ℕ) (n : ShardName) (p : Piece) → handled_by (with_held s held) k n p ≡ holding held (handled_by s k n p)
+handled_apart s held k n (piece.Tx g time body) = moved_apart s held k n time body.body (advanced s.vector n g)
+handled_apart s held k n (piece.Foreign g time j body) = if_apart held (concerns s.vector j) _ _ _ _ refl (moved_apart s held k n time body.body (advanced s.vector n g))
+handled_apart s held k n (piece.Chunk q l time body) = moved_apart s held k n time body.body (set_to s.vector n (Copying q l))
+handled_apart s held k n (piece.CopyDone q time room) = copied_apart s held k n time (set_to s.vector n (Streaming q))
+handled_apart s held k n (piece.Idle room) = refl
+handled_apart s held k n (piece.End c room) = ended_apart s held k n c
+
+of_apart : (s : CoreState) (held : List (ℕ × Piece)) (k : ℕ) (o : Option ShardName) (p : Piece) → handled_of (with_held s held) k o p ≡ holding held (handled_of s k o p)
+of_apart s held k None p = refl
+of_apart s held k (Some n) p = handled_apart s held k n p
+
+module _ (gate : CoreState) (held : List (ℕ × Piece)) (lane place : ℕ) (p : Piece) (at : IsHeadAt held lane place) (p_is : at.piece ≡ p) where
+  abbrev done : Turned
+  done = handled_of gate lane (slice_get gate.names lane) p
+
+  lane_turned : with_next (with_held gate held) (Some lane) ≡ holding (remove held place) done
+  lane_turned =
+      ap (λ l. with_pieces (with_held gate held) lane l) at.first
+      ∙ ap (λ l. handled_of (with_held gate l) lane (slice_get gate.names lane) at.piece) at.others
+      ∙ of_apart gate (remove held place) lane (slice_get gate.names lane) at.piece
+      ∙ ap (λ q. holding (remove held place) (handled_of gate lane (slice_get gate.names lane) q)) p_is
+
+  pub lane_went : (journals : Bool) (now : CoreState) (h : Handled) (room : Room) (before behind : List ℕ) → HandledSo journals done now lane h before behind →
+      WentSo journals (with_next (with_held gate held) (Some lane)) (with_held now (remove held place)) (turn_with lane h room) before behind
+  lane_went journals now h room before behind so = subst (λ t. WentSo journals t (with_held now (remove held place)) (turn_with lane h room) before behind) (sym lane_turned) (by done so)
+    where
+      by : (t : Turned) → HandledSo journals t now lane h before behind → WentSo journals (holding (remove held place) t) (with_held now (remove held place)) (turn_with lane h room) before behind
+      by (Went new sent told) so = (ap (λ g. with_held g (remove held place)) so.0, so.1 room, so.2)
+      by (Refused e) so = absurd so
+
+  pub lane_refused : (e : CoreRefusal) → (e ≡ Memory) ⊎ (done ≡ Refused e) → (e ≡ Memory) ⊎ (with_next (with_held gate held) (Some lane) ≡ Refused e)
+  lane_refused e why = ⊎_elim (λ m. inl m) (λ r. inr (lane_turned ∙ ap (holding (remove held place)) r)) why
+
+  pub lane_room : (h : Handled) (room : Room) → IsPieceRoom p room → RoomIsBack (lane_piece (with_held gate held) (Some lane)) (turn_with lane h room)
+  lane_room h room has = subst (λ l. RoomIsBack (first_piece l) (turn_with lane h room)) (sym at.first) (subst (λ q. BringsRoom q (turn_with lane h room)) (sym p_is) (by h))
+    where
+      by : (x : Handled) → BringsRoom p (turn_with lane x room)
+      by handled.Frame = has
+      by (handled.Switched retired started) = has
+      by (handled.Halted id) = has
+      by handled.Arrived = has
+      by handled.Ended = has
+      by handled.Idled = has
+      by (handled.Restart name) = has
+
+pub turned_next : (s : CoreState) (o : Option ℕ) → s.all_copied ≡ false → chosen_lane s ≡ o → turned s ≡ with_next s o
+turned_next s o due is = rw (due, is) refl
+
+pub piece_next : (s : CoreState) (o : Option ℕ) → s.all_copied ≡ false → chosen_lane s ≡ o → next_piece s ≡ lane_piece s o
+piece_next s o due is = rw (due, is) refl
+
+-- ---- a whole turn
+
+-- where the end of all copies is due, it is sent
+pub all_copied_turned : (s : CoreState) → s.all_copied ≡ true → turned s ≡ Went (record s { all_copied = false }) (SentAllCopied ∷ []) AllCopied
+all_copied_turned s due = rw due refl
+
+pub all_copied_went : (journals : Bool) (s now : CoreState) (before behind : List ℕ) → s.all_copied ≡ true → now ≡ record s { all_copied = false } →
+    behind ≡ before ++ message_bytes (plain_event no_head COPY_COMPLETED ∷ []) → WentSo journals (turned s) now turn.AllCopied before behind
+all_copied_went journals s now before behind due is wrote =
+    subst (λ t. WentSo journals t now turn.AllCopied before behind) (sym (all_copied_turned s due))
+    (is, tt, wrote ∙ ap (λ l. before ++ l) (sym (append-nil _ ∙ append-nil _)))
+
+pub all_copied_room : (s : CoreState) (t : Turn) → s.all_copied ≡ true → RoomIsBack (next_piece s) t
+all_copied_room s t due = subst (λ o. RoomIsBack o t) (sym (none due)) tt
+  where
+    none : s.all_copied ≡ true → next_piece s ≡ None
+    none is = rw is refl
+
+-- the turn of the lane that is next is the core's turn
+pub lane_turn : (s new : CoreState) (lane : ℕ) (before behind : List ℕ) (r : Result Turn CoreRefusal) → s.all_copied ≡ false → chosen_lane s ≡ Some lane →
+    IsTurned (with_next s (Some lane)) s new before behind r → IsTurned (turned s) s new before behind r
+lane_turn s new lane before behind r due is done = subst (λ t. IsTurned t s new before behind r) (sym (turned_next s (Some lane) due is)) done
+
+pub lane_turn_room : (s : CoreState) (lane : ℕ) (r : Result Turn CoreRefusal) → s.all_copied ≡ false → chosen_lane s ≡ Some lane →
+    IfOk r (λ t. RoomIsBack (lane_piece s (Some lane)) t) → IfOk r (λ t. RoomIsBack (next_piece s) t)
+lane_turn_room s lane r due is back = subst (λ o. IfOk r (λ t. RoomIsBack o t)) (sym (piece_next s (Some lane) due is)) back
+
+-- where no lane is next, the core is at rest
+pub rest_turn : (s : CoreState) (before : List ℕ) (r : Result Turn CoreRefusal) → s.all_copied ≡ false → chosen_lane s ≡ None →
+    IsRested (at_rest s) s r → IsTurned (turned s) s s before before r
+rest_turn s before r due none rests = subst (λ t. IsTurned t s s before before r) (sym (turned_next s None due none)) (by r rests)
+  where
+    by : (x : Result Turn CoreRefusal) → IsRested (at_rest s) s x → IsTurned (at_rest s) s s before before x
+    by (Ok t) h = subst (λ u. WentSo s.flags.include_journals u s t before before) (sym h.1) (refl, h.2, sym (append-nil before))
+    by (Err e) h = (refl, refl, inl h)
+
+pub rest_room : (s : CoreState) (r : Result Turn CoreRefusal) → s.all_copied ≡ false → chosen_lane s ≡ None → IsRested (at_rest s) s r → IfOk r (λ t. RoomIsBack (next_piece s) t)
+rest_room s r due none rests = subst (λ o. IfOk r (λ t. RoomIsBack o t)) (sym (piece_next s None due none)) (by r rests)
+  where
+    by : (x : Result Turn CoreRefusal) → IsRested (at_rest s) s x → IfOk x (λ t. RoomIsBack None t)
+    by (Ok t) h = tt
+    by (Err e) h = tt
+
+-- ---- at rest
+
+abbrev rested : CoreState → Bool → Bool → Bool → Bool → Turned
+rested s until ended rest wait = if until && ended then Went s [] Done else if until && (rest && wait) then Went s [] (Stuck s.kept) else Went s [] Nothing
+
+module _ (s : CoreState) where
+  abbrev pub all_ended : Bool
+  all_ended = list_all (is_at_end s) (names s.vector)
+
+  abbrev pub all_rest : Bool
+  all_rest = list_all (λ n. is_at_end s n || waits s.kept n) (names s.vector)
+
+  abbrev pub some_wait : Bool
+  some_wait = list_any (waits s.kept) (names s.vector)
+
+  pub rests_still : (t : Turn) → t ≡ turn.Nothing → at_rest s ≡ Went s [] Nothing → IsRested (at_rest s) s (Ok t)
+  rests_still t is so = subst (λ x. IsRested (at_rest s) s (Ok x)) (sym is) (Nothing, so, tt, λ p none. subst (λ o. RoomIsBack o turn.Nothing) (sym none) tt)
+
+  pub goes_on : s.until_end ≡ false → at_rest s ≡ Went s [] Nothing
+  goes_on on = ap (λ u. rested s u all_ended all_rest some_wait) on
+
+  pub is_stopped : s.until_end ≡ true → all_ended ≡ false → (all_rest && some_wait) ≡ false → at_rest s ≡ Went s [] Nothing
+  is_stopped on ended rest =
+      ap (λ u. rested s u all_ended all_rest some_wait) on ∙ ap (λ a. rested s true a all_rest some_wait) ended
+      ∙ ap (λ (b : Bool). if b then Went s [] (Stuck s.kept) else Went s [] Nothing) rest
+
+  pub ends_done : s.until_end ≡ true → all_ended ≡ true → IsRested (at_rest s) s (Ok turn.Done)
+  ends_done on ended = (
+    Done,
+    ap (λ u. rested s u all_ended all_rest some_wait) on ∙ ap (λ a. rested s true a all_rest some_wait) ended,
+    tt,
+    λ p none. subst (λ o. RoomIsBack o turn.Done) (sym none) tt,
+  )
+
+  pub ends_stuck : (ids : Vec ℤ) → s.until_end ≡ true → all_ended ≡ false → all_rest ≡ true → some_wait ≡ true → AreWaiting ids.items s.kept → IsRested (at_rest s) s (Ok (turn.Stuck ids))
+  ends_stuck ids on ended rest wait are = (
+    Stuck s.kept,
+    ap (λ u. rested s u all_ended all_rest some_wait) on ∙ ap (λ a. rested s true a all_rest some_wait) ended
+        ∙ ap (λ b. rested s true false b some_wait) rest ∙ ap (λ b. rested s true false true b) wait,
+    are,
+    λ p none. subst (λ o. RoomIsBack o (turn.Stuck ids)) (sym none) tt,
+  )
