@@ -1,11 +1,13 @@
 -- The states of the lanes of a shard, lane by lane.
-use Rattle.std.proofs.Common.{◌≡◌, ℕ, zero, suc, ◌+◌, Bool, true, false, List, [], ◌∷◌, ◌++◌, length, take, Option, Some, None, if◌then◌else◌, slice_get, refl, ap, sym, ◌∙◌, subst, ⊎_elim, true≢false}
-use Rattle.std.specs.List.{filter}
+use Rattle.std.proofs.Common.{◌≡◌, ℕ, zero, suc, ◌+◌, Bool, true, false, ◌||◌, List, [], ◌∷◌, ◌++◌, length, take, Option, Some, None, if◌then◌else◌, slice_get, refl, ap, sym, ◌∙◌, subst, ⊎_elim, true≢false}
+use Rattle.std.specs.List.{filter, list_any}
+use Rattle.std.proofs.lemmas.List.Folds.{list_any-append}
 use Rattle.std.proofs.lemmas.Bool.{cases_Bool}
 use Rattle.vs_base.specs.declared.ShardName.{ShardName}
 use Rattle.vs_base.specs.Names.{same_name}
 use Rattle.vs_model.proofs.Lists.{some_is_not_none, same_some}
-use Rattle.vs_core.specs.Machine.{is_failed, last_at_end, states_of}
+use Rattle.vs_core.proofs.ScanLemmas.{or_false}
+use Rattle.vs_core.specs.Machine.{is_failed, is_live, last_at_end, states_of}
 use Rattle.vs_core.specs.declared.lane.LaneState.{LaneState}
 use Rattle.vs_core.specs.declared.lane.LaneState.TheVariants.{Live, AtEnd, Failed, Over}
 
@@ -107,3 +109,9 @@ module _ (s : ShardName) (names : List ShardName) (states : List LaneState) (i :
   pub failed_past : (st : LaneState) → slice_get states i ≡ Some st → same_name n s ≡ true → is_failed st ≡ false →
       length (filter is_failed (states_of s (take (suc i) names) (take (suc i) states))) ≡ length (filter is_failed (states_of s (take i names) (take i states)))
   failed_past st st_at same failed = ap (λ l. length (filter is_failed l)) (states_more s names states i n st at st_at same) ∙ failed-same (states_of s (take i names) (take i states)) st failed
+
+  pub live_next : (st : LaneState) → slice_get states i ≡ Some st → same_name n s ≡ true →
+      list_any is_live (states_of s (take (suc i) names) (take (suc i) states)) ≡ (list_any is_live (states_of s (take i names) (take i states)) || is_live st)
+  live_next st st_at same =
+      ap (list_any is_live) (states_more s names states i n st at st_at same) ∙ list_any-append is_live (states_of s (take i names) (take i states)) (st ∷ [])
+      ∙ ap (λ b. list_any is_live (states_of s (take i names) (take i states)) || b) (or_false (is_live st))

@@ -9,3 +9,4 @@ pub mod LaneStates
 pub mod TurnLemmas
 pub mod HeadLemmas
 pub mod ScanLemmas
+pub mod FrameLemmas

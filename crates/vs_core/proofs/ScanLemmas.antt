@@ -7,7 +7,7 @@ use Rattle.vs_model.proofs.Lists.{some_is_not_none, same_some}
 use Rattle.vs_render.specs.declared.piece.Piece.{Piece}
 use Rattle.vs_core.specs.Choices.{heads_below, lane_head, with_lane}
 
-or_false : (b : Bool) → (b || false) ≡ b
+pub or_false : (b : Bool) → (b || false) ≡ b
 or_false true = refl
 or_false false = refl
 

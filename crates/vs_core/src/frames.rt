@@ -1,5 +1,5 @@
 //! Frames that have no body.
-ghost use Rattle.std.specs.Prelude.{◌≡◌, ◌++◌, ◌∷◌, IfOk, OnErr, OnOk, Some, [], map};
+ghost use Rattle.std.specs.Prelude.{◌≡◌, ◌++◌, ◌∷◌, IfOk, OnErr, OnOk, Some, [], if◌then◌else◌, map, pos};
 ghost use Rattle.vs_gtid.specs.Vectors.{successors_of};
 ghost use Rattle.vs_proto.specs.Frames.{message_bytes};
 ghost use Rattle.vs_proto.specs.declared.event_kind.TheConstants.{COPY_COMPLETED, JOURNAL, VGTID};
@@ -126,6 +126,13 @@ fn successor_shards(alloc: Global, journal: &JournalValue) -> Result<List<ShardG
     }
 }
 
+/// The number of a journal's kind.
+fn migration_type(shards: bool) -> i32
+    ensures { result ≡ (if shards then pos 1 else pos 0) }
+{
+    if shards { 1 } else { 0 }
+}
+
 /// A journal as a message.
 fn journal_message(alloc: Global, journal: &JournalValue) -> Result<Journal, OutOfMemory>
     ensures { IfOk result (λ m. m ≡ journal_of journal.now) }
@@ -133,7 +140,7 @@ fn journal_message(alloc: Global, journal: &JournalValue) -> Result<Journal, Out
     let participants = keyspace_shards(alloc, journal.participants.as_slice())?;
     Ok(Journal {
         id: journal.id,
-        migration_type: if journal.shards { 1 } else { 0 },
+        migration_type: migration_type(journal.shards),
         tables: List::new(alloc),
         local_position: Text::new(alloc),
         shard_gtids: successor_shards(alloc, journal)?,

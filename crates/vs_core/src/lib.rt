@@ -12,6 +12,7 @@ mod lane;
 mod laws;
 mod machine;
 mod moving;
+mod permits;
 mod refusal;
 mod rest;
 mod scans;

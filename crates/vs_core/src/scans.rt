@@ -1,7 +1,7 @@
 //! What is read off the vector and the states of lanes.
 ghost use Rattle.std.specs.List.{filter, list_all, list_any};
 ghost use Rattle.std.specs.Prelude.{◌≡◌, ◌||◌, length};
-ghost use Rattle.vs_core.specs.Machine.{is_at_end, is_failed, last_at_end, states_of};
+ghost use Rattle.vs_core.specs.Machine.{is_at_end, is_failed, is_live, last_at_end, states_of};
 ghost use Rattle.vs_gather.specs.Gathering.{waits};
 ghost use Rattle.vs_gtid.specs.Vectors.{names};
 ghost use Rattle.vs_model.specs.Core.{copies_in, some_copies};
@@ -50,6 +50,21 @@ fn last_at_end(names: &[ShardName], states: &[LaneState], name: &ShardName) -> b
         }
     }
     at_end
+}
+
+/// Whether one of the shard's lanes is live.
+pub(crate) fn has_live(names: &[ShardName], states: &[LaneState], name: &ShardName) -> bool
+    ensures { result ≡ list_any is_live (states_of name.now names.now states.now) }
+{
+    let mut live = false;
+    for (lane, other) in names.iter().enumerate() {
+        if other.is_same(name) {
+            if let Some(state) = states.get(lane) {
+                live = live || *state == LaneState::Live;
+            }
+        }
+    }
+    live
 }
 
 /// Whether the shard copies.

@@ -3,7 +3,7 @@ use Rattle.std.specs.List.{list_all, list_any}
 use Rattle.vs_gather.specs.Gathering.{waits}
 use Rattle.vs_gtid.specs.Vectors.{names}
 use Rattle.vs_core.specs.Machine.{is_at_end}
-use Rattle.vs_core.proofs.scans.Gate.standing.Given as goal
+use Rattle.vs_core.proofs.gate.Gate.standing.Given as goal
 
 abbrev pub invariant-loop-i : goal.invariant-loop-i
 invariant-loop-i l = record {
