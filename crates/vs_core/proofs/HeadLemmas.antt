@@ -1,5 +1,7 @@
 -- What a turn makes of each kind of piece.
-use Rattle.std.proofs.Common.{◌≡◌, ◌⊎◌, ℕ, Bool, true, false, not, List, [], ◌∷◌, ◌++◌, append-nil, map, Option, Some, None, Result, Ok, Err, is_some, if◌then◌else◌, length, nat_lt, slice_get, Vec, refl, ap, sym, ◌∙◌, subst}
+use Rattle.std.proofs.Common.{◌≡◌, ◌⊎◌, ℕ, Bool, true, false, not, List, [], ◌∷◌, ◌++◌, append-nil, map, Option, Some, None, Result, Ok, Err, is_some, if◌then◌else◌, length, nat_lt, slice_get, Global, Vec, refl, ap, sym, ◌∙◌, subst, inl, inr, ⊎_elim}
+use Rattle.std.specs.Borrow.{Bor}
+use Rattle.std.specs.Slice.{IsItemAt}
 use Rattle.vs_base.specs.declared.ShardName.{ShardName}
 use Rattle.vs_base.specs.declared.Gtid.{Gtid}
 use Rattle.vs_base.specs.declared.LastKey.{LastKey}
@@ -27,7 +29,9 @@ use Rattle.vs_gather.specs.Gathering.{Arrived, arrival, concerns, is_complete}
 use Rattle.vs_gather.specs.Gathering.Arrived.{StillWaits, Completes}
 use Rattle.vs_gather.specs.declared.kept.Kept.{Kept}
 use Rattle.vs_gather.specs.declared.refusal.GatherRefusal.{GatherRefusal}
-use Rattle.vs_core.specs.Arrivals.{ComesTo}
+use Rattle.vs_gather.specs.declared.refusal.GatherRefusal.TheVariants as gather
+use Rattle.vs_core.proofs.ScanLemmas.{item_at}
+use Rattle.vs_core.specs.Arrivals.{ComesTo, told_refusal}
 use Rattle.vs_core.specs.Framing.{journal_events}
 use Rattle.vs_core.specs.Machine.{CoreState, Sent, TurnTold, Turned, arrived_by, completed, copied_by, ended_by, failed_by, failures, handled_by, handled_of, in_state, moved_by, switched_to}
 use Rattle.vs_core.specs.Machine.Sent.{SentBody, SentCopyDone, SentSwitch, SentHalt}
@@ -120,7 +124,7 @@ module _ (journals : Bool) (s now : CoreState) (k : ℕ) (n : ShardName) (before
     switch_bytes true w = sym (append-nil _)
     switch_bytes false w = sym (append-nil _)
 
-    pub switch_went : (w : Vector) (retired started : Vec ShardName) → arrival s.vector n j s.kept ≡ Ok (Completes kept) → s.flags.stop_on_reshard ≡ false → w ≡ switched s.vector j →
+    pub switch_went : (w : Vector) (retired started : Vec ShardName Global) → arrival s.vector n j s.kept ≡ Ok (Completes kept) → s.flags.stop_on_reshard ≡ false → w ≡ switched s.vector j →
         nat_lt most_shards (length w) ≡ false → now ≡ record over { vector = w } → retired.items ≡ j.participants → started.items ≡ map (λ m. m.name) j.successors →
         behind ≡ before ++ message_bytes (journal_events journals j ++ vector_event no_head (vgtid_of w) ∷ []) → HandledSo journals comes now k (handled.Switched retired started) before behind
     switch_went w retired started due goes_on is few now_is leave begin wrote =
@@ -161,6 +165,20 @@ module _ (s : CoreState) (k : ℕ) (n : ShardName) (named : slice_get s.names k 
       handled_of s k (slice_get s.names k) (piece.End (cause.OwnJournal j) room) ≡ Refused (refused.Gathering e)
   arrival_refused room j e is = head_refused (piece.End (cause.OwnJournal j) room) (refused.Gathering e) (ap (arrived_by (in_state s k Over) k j) is)
 
+  pub arrival_told : (room : Room) (j : JournalValue) (e : GatherRefusal) (r : CoreRefusal) → r ≡ told_refusal e → (e ≡ gather.Memory) ⊎ (arrival s.vector n j s.kept ≡ Err e) →
+      (r ≡ refused.Memory) ⊎ (handled_of s k (slice_get s.names k) (piece.End (cause.OwnJournal j) room) ≡ Refused r)
+  arrival_told room j e r is why = by e is why
+    where
+      told : (x : GatherRefusal) → r ≡ refused.Gathering x → arrival s.vector n j s.kept ≡ Err x →
+          (r ≡ refused.Memory) ⊎ (handled_of s k (slice_get s.names k) (piece.End (cause.OwnJournal j) room) ≡ Refused r)
+      told x so due = inr (arrival_refused room j x due ∙ ap (λ y. Refused y) (sym so))
+
+      by : (x : GatherRefusal) → r ≡ told_refusal x → (x ≡ gather.Memory) ⊎ (arrival s.vector n j s.kept ≡ Err x) →
+          (r ≡ refused.Memory) ⊎ (handled_of s k (slice_get s.names k) (piece.End (cause.OwnJournal j) room) ≡ Refused r)
+      by (gather.Differs id kept came) so h = ⊎_elim (λ (m : gather.Differs id kept came ≡ gather.Memory). absurd (cc)) (λ due. told (gather.Differs id kept came) so due) h
+      by (gather.Clash id shard) so h = ⊎_elim (λ (m : gather.Clash id shard ≡ gather.Memory). absurd (cc)) (λ due. told (gather.Clash id shard) so due) h
+      by gather.Memory so h = inl so
+
   pub switch_refused : (room : Room) (j : JournalValue) (kept : List Kept) → arrival s.vector n j s.kept ≡ Ok (Completes kept) → s.flags.stop_on_reshard ≡ false →
       nat_lt most_shards (length (switched s.vector j)) ≡ true → handled_of s k (slice_get s.names k) (piece.End (cause.OwnJournal j) room) ≡ Refused (refused.TooManyShards (length (switched s.vector j)))
   switch_refused room j kept due goes_on many =
@@ -169,6 +187,10 @@ module _ (s : CoreState) (k : ℕ) (n : ShardName) (named : slice_get s.names k 
       (ap (arrived_by (in_state s k Over) k j) due ∙ ap (λ b. if b then Went new (SentHalt j s.vector ∷ []) (Halted k j.id) else switched_to new k j (switched s.vector j)) goes_on
       ∙ ap (λ (b : Bool). if b then Refused (refused.TooManyShards (length (switched s.vector j)))
       else Went (record new { vector = switched s.vector j }) (SentSwitch j (switched s.vector j) ∷ []) (Switched k j.participants (map (λ m. m.name) j.successors))) many)
+
+-- the name of a lane, as it was looked up
+pub named_at : (s view : CoreState) (names : List ShardName) (lane : ℕ) (x : Bor ShardName) → view ≡ s → names ≡ view.names → IsItemAt names lane (Some x) → slice_get s.names lane ≡ Some x.now
+named_at s view names lane x is from it = ap (λ (y : CoreState). slice_get y.names lane) (sym is) ∙ ap (λ l. slice_get l lane) (sym from) ∙ item_at names lane x it
 
 -- ---- what an arrival will be
 

@@ -1,5 +1,5 @@
 -- What a turn makes of the core, part by part.
-use Rattle.std.proofs.Common.{◌≡◌, ◌⊎◌, ℕ, Bool, true, false, List, [], ◌∷◌, ◌++◌, append-nil, Option, Some, None, Result, Ok, Err, IfOk, ◌&&◌, ◌||◌, ℤ, Vec, if◌then◌else◌, length, nat_lt, slice_get, refl, ap, sym, ◌∙◌, subst, inl, inr, ⊎_elim}
+use Rattle.std.proofs.Common.{◌≡◌, ◌⊎◌, ℕ, Bool, true, false, List, [], ◌∷◌, ◌++◌, append-nil, Option, Some, None, Result, Ok, Err, IfOk, ◌&&◌, ◌||◌, ℤ, Global, Vec, if◌then◌else◌, length, nat_lt, slice_get, refl, ap, sym, ◌∙◌, subst, inl, inr, ⊎_elim}
 use Rattle.std.specs.List.{list_all, list_any, remove}
 use Rattle.vs_base.specs.declared.ShardName.{ShardName}
 use Rattle.vs_base.specs.declared.Gtid.{Gtid}
@@ -131,6 +131,38 @@ turned_next s o due is = rw (due, is) refl
 pub piece_next : (s : CoreState) (o : Option ℕ) → s.all_copied ≡ false → chosen_lane s ≡ o → next_piece s ≡ lane_piece s o
 piece_next s o due is = rw (due, is) refl
 
+-- ---- the head of a lane
+
+module _ (s gate : CoreState) (held : List (ℕ × Piece)) (lane place : ℕ) (x : ℕ × Piece) (is : with_held gate held ≡ s) (at : IsHeadAt s.held lane place) (there : slice_get held place ≡ Some x) where
+  at_here : IsHeadAt held lane place
+  at_here = subst (λ (y : CoreState). IsHeadAt y.held lane place) (sym is) at
+
+  piece_is : at_here.piece ≡ x.1
+  piece_is = let pair : ℕ × Piece = (lane, at_here.piece) in ap (λ (y : ℕ × Piece). y.1) (same_some pair x (sym at_here.stands_at ∙ there))
+
+  pub head_went : (now : CoreState) (rest : List (ℕ × Piece)) (h : Handled) (room : Room) (t : Turn) (before behind : List ℕ) → rest ≡ remove held place →
+      HandledSo gate.flags.include_journals (handled_of gate lane (slice_get gate.names lane) x.1) now lane h before behind → t ≡ turn_with lane h room →
+      WentSo s.flags.include_journals (with_next s (Some lane)) (with_held now rest) t before behind
+  head_went now rest h room t before behind rest_is so t_is =
+      subst (λ (y : CoreState). WentSo y.flags.include_journals (with_next y (Some lane)) (with_held now rest) t before behind) is
+      (subst (λ r. WentSo gate.flags.include_journals (with_next (with_held gate held) (Some lane)) (with_held now r) t before behind) (sym rest_is)
+      (subst (λ u. WentSo gate.flags.include_journals (with_next (with_held gate held) (Some lane)) (with_held now (remove held place)) u before behind) (sym t_is)
+      (lane_went gate held lane place x.1 at_here piece_is gate.flags.include_journals now h room before behind so)))
+
+  pub head_refused : (now : CoreState) (e : CoreRefusal) (before behind : List ℕ) → now ≡ gate → behind ≡ before → (e ≡ Memory) ⊎ (handled_of gate lane (slice_get gate.names lane) x.1 ≡ Refused e) →
+      IsTurned (with_next s (Some lane)) s (with_held now held) before behind (Err e)
+  head_refused now e before behind now_is wrote why = (
+    ap (λ g. with_held g held) now_is ∙ is,
+    wrote,
+    subst (λ (y : CoreState). (e ≡ Memory) ⊎ (with_next y (Some lane) ≡ Refused e)) is (lane_refused gate held lane place x.1 at_here piece_is e why),
+  )
+
+  pub head_room : (h : Handled) (room : Room) (t : Turn) → IsPieceRoom x.1 room → t ≡ turn_with lane h room → RoomIsBack (lane_piece s (Some lane)) t
+  head_room h room t has t_is =
+      subst (λ (y : CoreState). RoomIsBack (lane_piece y (Some lane)) t) is
+      (subst (λ u. RoomIsBack (lane_piece (with_held gate held) (Some lane)) u) (sym t_is) (lane_room gate held lane place x.1 at_here piece_is h room has))
+
+
 -- ---- a whole turn
 
 -- where the end of all copies is due, it is sent
@@ -208,7 +240,7 @@ module _ (s : CoreState) where
     λ p none. subst (λ o. RoomIsBack o turn.Done) (sym none) tt,
   )
 
-  pub ends_stuck : (ids : Vec ℤ) → s.until_end ≡ true → all_ended ≡ false → all_rest ≡ true → some_wait ≡ true → AreWaiting ids.items s.kept → IsRested (at_rest s) s (Ok (turn.Stuck ids))
+  pub ends_stuck : (ids : Vec ℤ Global) → s.until_end ≡ true → all_ended ≡ false → all_rest ≡ true → some_wait ≡ true → AreWaiting ids.items s.kept → IsRested (at_rest s) s (Ok (turn.Stuck ids))
   ends_stuck ids on ended rest wait are = (
     Stuck s.kept,
     ap (λ u. rested s u all_ended all_rest some_wait) on ∙ ap (λ a. rested s true a all_rest some_wait) ended

@@ -5,4 +5,5 @@ pub mod Spelling
 pub mod Rooms
 pub mod Tells
 pub mod Framing
+pub mod Scans
 pub mod Arrivals

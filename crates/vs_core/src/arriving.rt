@@ -1,6 +1,6 @@
 //! Lanes that come to their journal.
 ghost use Rattle.std.specs.Prelude.{◌≡◌, ◌++◌, ◌∷◌, ◌⊎◌, ℕ, [], IfErr, IfOk, IsTrue, List, OnErr, OnOk, Err, Ok, Some, false, length, map, nat_lt, slice_get, true};
-ghost use Rattle.vs_core.specs.Arrivals.{ComesTo};
+ghost use Rattle.vs_core.specs.Arrivals.{ComesTo, told_refusal};
 ghost use Rattle.vs_core.specs.Framing.{journal_events};
 ghost use Rattle.vs_core.specs.Machine.{handled_of};
 ghost use Rattle.vs_core.specs.Machine.Turned.{Refused};
@@ -72,8 +72,7 @@ impl Gate {
         }
         match self.gather.check(alloc, &self.vector, name, journal) {
             Ok(complete) => Ok(complete),
-            Err(GatherRefusal::Memory) => Err(CoreRefusal::Memory),
-            Err(e) => Err(CoreRefusal::Gathering(e)),
+            Err(e) => Err(told_refusal(e)),
         }
     }
 
@@ -143,6 +142,21 @@ impl Gate {
         self.vector = vector;
         self.states[lane] = LaneState::Over;
         Ok(Handled::Switched { retired, started })
+    }
+}
+
+/// Why a turn isn't made, where an arrival is refused.
+fn told_refusal(e: GatherRefusal) -> CoreRefusal
+    ensures { result ≡ told_refusal e }
+{
+    match e {
+        GatherRefusal::Differs { id, kept, came } => {
+            CoreRefusal::Gathering(GatherRefusal::Differs { id, kept, came })
+        }
+        GatherRefusal::Clash { id, shard } => {
+            CoreRefusal::Gathering(GatherRefusal::Clash { id, shard })
+        }
+        GatherRefusal::Memory => CoreRefusal::Memory,
     }
 }
 

@@ -19,11 +19,11 @@ struct Heads {
 
 impl Core {
     /// The lane whose head leaves next, and the place of that piece among those that are held.
-    pub(crate) fn next_place(&self) -> Result<Option<(usize, usize)>, OutOfMemory>
+    pub(crate) fn next_place(&self, alloc: Global) -> Result<Option<(usize, usize)>, OutOfMemory>
         ensures { IfOk result (λ next. IsNextPlace (chosen_lane self.now) self.now.held next) }
     {
-        let skew = self.gate.flags.max_skew;
-        let lanes = self.gate.names.len();
+        let skew = self.gate.max_skew();
+        let lanes = self.gate.lanes();
         if skew == 0 {
             if let Some((lane, _)) = self.held.front() {
                 if *lane < lanes {
@@ -31,7 +31,7 @@ impl Core {
                 }
             }
         }
-        let heads = heads_of(self.gate.alloc, &self.held, lanes)?;
+        let heads = heads_of(alloc, &self.held, lanes)?;
         match choose(heads.heads.as_slice(), skew) {
             None => Ok(None),
             Some(i) => match (heads.lanes.get(i), heads.heads.get(i)) {
@@ -70,13 +70,12 @@ fn lane_head(held: &VecDeque<(usize, Piece)>, lane: usize) -> Option<Head>
     ensures { result ≡ lane_head lane held.now.items }
 {
     for place in 0..held.len() {
-        if let Some((number, piece)) = held.get(place) {
-            if *number == lane {
-                return Some(Head {
-                    time: u64::from(piece_time(piece)),
-                    taken: place as u64,
-                });
-            }
+        let (number, piece) = &held[place];
+        if *number == lane {
+            return Some(Head {
+                time: u64::from(piece_time(piece)),
+                taken: place as u64,
+            });
         }
     }
     None

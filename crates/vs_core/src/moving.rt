@@ -10,7 +10,7 @@ ghost use Rattle.vs_render.specs.Bodies.{frame_with};
 ghost use Rattle.vs_render.specs.Events.{head_of, plain_event, vector_event};
 ghost use Rattle.vs_render.specs.declared.piece.Piece.TheVariants as piece;
 ghost use Rattle.vs_render.specs.declared.room.Room.{Room};
-ghost use Rattle.vs_vector.specs.Changes.{advanced_place};
+ghost use Rattle.vs_vector.specs.Changes.{advanced_place, set_to};
 ghost use Rattle.vs_vector.specs.Messages.{vgtid_of};
 ghost use Rattle.vs_vector.specs.Places.{entry_place};
 
@@ -19,7 +19,7 @@ use crate::gate::Gate;
 use crate::handled::Handled;
 use crate::scans::some_copies;
 use crate::{CoreRefusal, OutOfMemory};
-use std::alloc::Global;
+use std::alloc::{AllocError, Global};
 use vs_base::{Gtid, LastKey, ShardName};
 use vs_gtid::{GtidSet, JournalValue};
 use vs_render::{Body, put_frame_with};
@@ -92,10 +92,7 @@ impl Gate {
     {
         match self.names.get(lane) {
             Some(name) => {
-                if !self.vector.stands(name) {
-                    return Err(CoreRefusal::Memory);
-                }
-                let at = copying_entry(alloc, position, last_key)?;
+                let at = copying_entry(alloc, &self.vector, name, position, last_key)?;
                 send_moved(alloc, out, &mut self.vector, name, at, time, body)?;
                 Ok(Handled::Frame)
             }
@@ -148,14 +145,20 @@ fn advanced_entry(
     }
 }
 
-/// The entry of a shard that copies, and has come to the last key.
+/// The entry of a shard of the vector that copies, and has come to the last key.
 fn copying_entry(
     alloc: Global,
+    vector: &Vector,
+    name: &ShardName,
     position: &GtidSet,
     last_key: &LastKey,
 ) -> Result<ShardAt, OutOfMemory>
-    ensures { IfOk result (λ at. entry_place at ≡ Copying position.now last_key.now) }
+    ensures stands { OnOk result (IsTrue (stands vector.now name.now)) }
+    ensures ok { IfOk result (λ at. set_to vector.now name.now (Copying position.now last_key.now) ≡ Ok (moved vector.now name.now (entry_place at))) }
 {
+    if !vector.stands(name) {
+        return Err(AllocError);
+    }
     Ok(ShardAt {
         start: Place::At(position.copy(alloc)?),
         last_key: Some(last_key.copy(alloc)?),

@@ -1,6 +1,6 @@
 //! Whether a lane may begin, and whether a piece of it may be taken.
 ghost use Rattle.std.specs.List.{list_any};
-ghost use Rattle.std.specs.Prelude.{◌≡◌, true};
+ghost use Rattle.std.specs.Prelude.{◌≡◌, ◌&&◌, ◌||◌, true};
 ghost use Rattle.vs_core.specs.Choices.{held_of};
 ghost use Rattle.vs_core.specs.Machine.{MayBegin, MayTake, ends_lane};
 
@@ -43,17 +43,21 @@ fn ends_lane(piece: &Piece) -> bool
     }
 }
 
+/// Whether the end is there with this piece too, which is the lane's or not.
+fn ends_with(ends: bool, is_of_lane: bool, piece: &Piece) -> bool
+    ensures { result ≡ (ends || (is_of_lane && ends_lane piece.now)) }
+{
+    ends || (is_of_lane && ends_lane(piece))
+}
+
 /// Whether the end of the lane is held.
 fn has_end(held: &VecDeque<(usize, Piece)>, lane: usize) -> bool
     ensures { result ≡ list_any ends_lane (held_of lane held.now.items) }
 {
     let mut ends = false;
     for place in 0..held.len() {
-        if let Some((number, piece)) = held.get(place) {
-            if *number == lane {
-                ends = ends || ends_lane(piece);
-            }
-        }
+        let (number, piece) = &held[place];
+        ends = ends_with(ends, *number == lane, piece);
     }
     ends
 }

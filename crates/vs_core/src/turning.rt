@@ -20,7 +20,7 @@ impl Core {
             self.gate.all_copied = false;
             return Ok(Turn::AllCopied);
         }
-        match self.next_place()? {
+        match self.next_place(alloc)? {
             None => self.at_rest(alloc),
             Some((lane, place)) => self.turn_lane(alloc, out, lane, place),
         }
@@ -39,7 +39,10 @@ impl Core {
         ensures room { IfOk result (λ t. RoomIsBack (lane_piece self.old (Some lane)) t) }
     {
         let handled = match self.held.get(place) {
-            Some((_, piece)) => self.gate.handle(alloc, out, lane, piece)?,
+            Some((_, piece)) => match self.gate.handle(alloc, out, lane, piece) {
+                Ok(handled) => handled,
+                Err(e) => return Err(e),
+            },
             None => return Err(CoreRefusal::Memory),
         };
         match self.held.remove(place) {
@@ -53,14 +56,14 @@ impl Core {
         ensures { IsRested (at_rest self.now) self.now result }
     {
         let standing = self.gate.standing();
-        if !self.gate.until_end {
+        if !self.gate.until_end() {
             return Ok(Turn::Nothing);
         }
         if standing.all_ended {
             return Ok(Turn::Done);
         }
         if standing.all_rest && standing.some_wait {
-            let ids = self.gate.gather.waiting(alloc)?;
+            let ids = self.gate.waiting(alloc)?;
             return Ok(Turn::Stuck { ids });
         }
         Ok(Turn::Nothing)
