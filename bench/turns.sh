@@ -83,7 +83,7 @@ fn take_round(alloc: Global, core: &mut Core, shards: u8, first: u64) -> Result<
         let number = (turn % u64::from(shards.max(1))) as u8;
         let mut uuid = [7; 16];
         uuid[15] = number;
-        let gtid = Gtid::new(uuid, turn / u64::from(shards.max(1)) + 1).context("no such number")?;
+        let gtid = Gtid::new(uuid, (turn / u64::from(shards.max(1))).saturating_add(1)).context("no such number")?;
         let name = shard(alloc, number)?;
         let body = body(alloc, &name, gtid)?;
         let piece = Piece::Tx { gtid, time: 100, body };

@@ -9,7 +9,6 @@ use Rattle.vs_core.proofs.ScanLemmas.{or_false}
 use Rattle.vs_core.specs.Machine.{is_failed, is_live, last_at_end, states_of}
 use Rattle.vs_core.specs.Scans.{lane_state, state_if}
 use Rattle.vs_core.specs.declared.lane.LaneState.{LaneState}
-use Rattle.vs_core.specs.declared.lane.LaneState.TheVariants.{Live, AtEnd, Failed, Over}
 
 abbrev if_there : Option LaneState → List LaneState
 if_there None = []

@@ -7,6 +7,5 @@ pub mod Bytes
 pub mod NextLemmas
 pub mod LaneStates
 pub mod TurnLemmas
-pub mod HeadLemmas
+pub mod ArrivalLemmas
 pub mod ScanLemmas
-pub mod FrameLemmas

@@ -215,6 +215,3 @@ pub chosen_at : (skew n : ℕ) (held : Held) (lanes : List ℕ) (heads : List He
 chosen_at skew n held lanes heads i lane head lanes_are heads_are next at head_at =
     next_is skew n held i (lane, head) (subst (λ l. IsNext skew l i) heads_are next)
     (both_at (heads_below n held) i lane head (sym (ap (λ l. slice_get l i) lanes_are) ∙ at) (sym (ap (λ l. slice_get l i) heads_are) ∙ head_at))
-
-pub none_at : (skew n : ℕ) (held : Held) (heads : List Head) → heads ≡ map (λ h. h.1) (heads_below n held) → heads ≡ [] → IsNextPlace (next_lane skew n held) held None
-none_at skew n held heads heads_are none = none_next skew n held (sym heads_are ∙ none)

@@ -1,16 +1,14 @@
 -- What holds of the elements of a list up to a place, and of one more.
-use Rattle.std.proofs.Common.{◌≡◌, ◌&&◌, ◌||◌, ℕ, zero, suc, ◌+◌, add-one, Bool, true, false, List, [], ◌∷◌, ◌++◌, append-nil, length, map, take, Option, Some, None, nat_eq, slice_get, refl, ap, sym, ◌∙◌}
+use Rattle.std.proofs.Common.{◌≡◌, ◌&&◌, ◌||◌, ℕ, zero, suc, ◌+◌, add-one, Bool, true, false, List, [], ◌∷◌, length, take, Option, Some, None, nat_eq, slice_get, refl, ap, sym, ◌∙◌}
 use Rattle.std.specs.List.{list_all, list_any}
 use Rattle.std.specs.Option.{option_map_or}
 use Rattle.std.proofs.lemmas.Bool.{ltb-true}
 use Rattle.std.proofs.lemmas.Option.{slice_get_read}
 use Rattle.std.specs.Borrow.{Bor}
 use Rattle.std.specs.Slice.{IsItemAt}
-use Rattle.std.proofs.lemmas.List.{map-append}
-use Rattle.vs_pace.specs.declared.head.Head.{Head}
 use Rattle.vs_model.proofs.Lists.{some_is_not_none, same_some}
 use Rattle.vs_render.specs.declared.piece.Piece.{Piece}
-use Rattle.vs_core.specs.Choices.{heads_below, held_of, lane_head, with_lane}
+use Rattle.vs_core.specs.Choices.{held_of}
 use Rattle.vs_core.proofs.HeldPieces.{held_at, held_past}
 
 pub or_false : (b : Bool) → (b || false) ≡ b
@@ -52,14 +50,6 @@ module _ {X : Type 0} (t : X → Bool) where
 pub either_there : {X : Type 0} (a b : X → Bool) (o : Option X) → (option_map_or a o true || option_map_or b o false) ≡ option_map_or (λ x. a x || b x) o true
 either_there a b None = refl
 either_there a b (Some x) = refl
-
--- the heads of the lanes, one lane more
-module _ {Y : Type 0} (f : ℕ × Head → Y) (held : List (ℕ × Piece)) (lane : ℕ) where
-  pub heads_more : (h : Head) → lane_head lane held ≡ Some h → map f (heads_below (suc lane) held) ≡ map f (heads_below lane held) ++ f (lane, h) ∷ []
-  heads_more h is = ap (λ o. map f (heads_below lane held ++ with_lane lane o)) is ∙ map-append f (heads_below lane held) ((lane, h) ∷ [])
-
-  pub heads_same : lane_head lane held ≡ None → map f (heads_below (suc lane) held) ≡ map f (heads_below lane held)
-  heads_same none = ap (λ o. map f (heads_below lane held ++ with_lane lane o)) none ∙ ap (map f) (append-nil (heads_below lane held))
 
 -- a test of the pieces of a lane, one held piece more
 module _ (k : ℕ) (t : Piece → Bool) where

@@ -1,44 +1,36 @@
 -- What a turn makes of the core, part by part.
-use Rattle.std.proofs.Common.{◌≡◌, ◌⊎◌, ℕ, Bool, true, false, List, [], ◌∷◌, ◌++◌, append-nil, Option, Some, None, Result, Ok, Err, IfOk, ◌&&◌, ◌||◌, ℤ, Global, Vec, if◌then◌else◌, length, nat_lt, slice_get, refl, ap, sym, ◌∙◌, subst, inl, inr, ⊎_elim}
+use Rattle.std.proofs.Common.{◌≡◌, ◌⊎◌, ℕ, Bool, true, false, List, [], Option, Some, None, Result, Ok, Err, ◌&&◌, ◌||◌, ℤ, Global, Vec, if◌then◌else◌, length, nat_lt, slice_get, refl, ap, sym, ◌∙◌, subst, inl, inr, ⊎_elim}
 use Rattle.std.specs.List.{list_all, list_any, remove}
 use Rattle.vs_base.specs.declared.ShardName.{ShardName}
-use Rattle.vs_base.specs.declared.Gtid.{Gtid}
 use Rattle.vs_gtid.specs.declared.JournalValue.{JournalValue}
 use Rattle.vs_gtid.specs.Vectors.{Vector, names, switched}
 use Rattle.vs_gtid.specs.Vectors.Place.{Copying, Streaming}
-use Rattle.vs_model.proofs.Lists.{some_is_not_none, same_some}
-use Rattle.vs_render.specs.Bodies.{HeldBody, Rendered}
+use Rattle.vs_model.proofs.Lists.{same_some}
+use Rattle.vs_render.specs.Bodies.{Rendered}
 use Rattle.vs_render.specs.declared.room.Room.{Room}
 use Rattle.vs_render.specs.declared.piece.Piece.{Piece}
 use Rattle.vs_render.specs.declared.piece.Piece.TheVariants as piece
 use Rattle.vs_render.specs.declared.piece.EndCause.{EndCause}
 use Rattle.vs_render.specs.declared.piece.EndCause.TheVariants as cause
-use Rattle.vs_vector.specs.Changes.{advanced, advanced_from, advanced_place, moved_to, set_to}
+use Rattle.vs_vector.specs.Changes.{advanced, set_to}
 use Rattle.vs_vector.specs.Places.{most_shards}
 use Rattle.vs_vector.specs.declared.refusal.VectorRefusal.{VectorRefusal}
-use Rattle.vs_vector.specs.declared.refusal.VectorRefusal.TheVariants.{Absent, TooManyIntervals}
 use Rattle.vs_gather.specs.Gathering.{AreWaiting, Arrived, arrival, concerns, waits}
 use Rattle.vs_gather.specs.Gathering.Arrived.{StillWaits, Completes}
 use Rattle.vs_gather.specs.declared.refusal.GatherRefusal.{GatherRefusal}
-use Rattle.vs_core.specs.Choices.{IsHeadAt, held_of, without_head}
-use Rattle.vs_core.specs.Machine.{CoreState, Sent, TurnTold, Turned, arrived_by, at_rest, completed, copied_by, ended_by, failed_by, failures, handled_by, handled_of, moved_by, switched_to, with_next, with_pieces, in_state, is_at_end, chosen_lane, turned}
-use Rattle.vs_core.specs.Machine.Sent.{SentAllCopied}
-use Rattle.vs_core.specs.Machine.TurnTold.{AllCopied, Done, Nothing, Stuck}
+use Rattle.vs_core.specs.Choices.{IsHeadAt}
+use Rattle.vs_core.specs.Machine.{CoreState, Turned, arrived_by, at_rest, copied_by, ended_by, failed_by, failures, handled_by, handled_of, moved_by, with_next, with_pieces, in_state, is_at_end}
+use Rattle.vs_core.specs.Machine.TurnTold.{Done, Nothing, Stuck}
 use Rattle.vs_core.specs.Machine.Turned.{Went, Refused}
-use Rattle.vs_core.specs.Spelling.{sent_bytes, stream_bytes}
 use Rattle.vs_core.specs.Rooms.{IsPieceRoom}
-use Rattle.vs_core.specs.Tells.{BringsRoom, HandledSo, IsHandled, IsRested, IsTurned, RoomIsBack, TellsTurn, WentSo, first_piece, lane_piece, next_piece, turn_with}
+use Rattle.vs_core.specs.Tells.{BringsRoom, HandledSo, IsRested, IsTurned, RoomIsBack, WentSo, first_piece, lane_piece, turn_with}
 use Rattle.vs_core.specs.declared.handled.Handled.{Handled}
 use Rattle.vs_core.specs.declared.handled.Handled.TheVariants as handled
-use Rattle.vs_core.specs.declared.lane.LaneState.TheVariants.{AtEnd, Over}
-use Rattle.vs_render.specs.Bodies.{frame_with}
-use Rattle.vs_proto.specs.Frames.{message_bytes}
-use Rattle.vs_proto.specs.declared.event_kind.TheConstants.{COPY_COMPLETED}
-use Rattle.vs_render.specs.Events.{no_head, plain_event}
+use Rattle.vs_core.specs.declared.lane.LaneState.TheVariants.{Over}
 use Rattle.vs_core.specs.declared.turn.Turn.{Turn}
 use Rattle.vs_core.specs.declared.turn.Turn.TheVariants as turn
 use Rattle.vs_core.specs.declared.refusal.CoreRefusal.{CoreRefusal}
-use Rattle.vs_core.specs.declared.refusal.CoreRefusal.TheVariants.{Memory, PositionTooLarge}
+use Rattle.vs_core.specs.declared.refusal.CoreRefusal.TheVariants.{Memory}
 
 -- what is done for a piece leaves the held ones alone
 abbrev pub holding : List (ℕ × Piece) → Turned → Turned
@@ -102,7 +94,7 @@ module _ (gate : CoreState) (held : List (ℕ × Piece)) (lane place : ℕ) (p :
       ∙ of_apart gate (remove held place) lane (slice_get gate.names lane) at.piece
       ∙ ap (λ q. holding (remove held place) (handled_of gate lane (slice_get gate.names lane) q)) p_is
 
-  pub lane_went : (journals : Bool) (now : CoreState) (h : Handled) (room : Room) (before behind : List ℕ) → HandledSo journals done now lane h before behind →
+  lane_went : (journals : Bool) (now : CoreState) (h : Handled) (room : Room) (before behind : List ℕ) → HandledSo journals done now lane h before behind →
       WentSo journals (with_next (with_held gate held) (Some lane)) (with_held now (remove held place)) (turn_with lane h room) before behind
   lane_went journals now h room before behind so = subst (λ t. WentSo journals t (with_held now (remove held place)) (turn_with lane h room) before behind) (sym lane_turned) (by done so)
     where
@@ -110,10 +102,10 @@ module _ (gate : CoreState) (held : List (ℕ × Piece)) (lane place : ℕ) (p :
       by (Went new sent told) so = (ap (λ g. with_held g (remove held place)) so.0, so.1 room, so.2)
       by (Refused e) so = absurd so
 
-  pub lane_refused : (e : CoreRefusal) → (e ≡ Memory) ⊎ (done ≡ Refused e) → (e ≡ Memory) ⊎ (with_next (with_held gate held) (Some lane) ≡ Refused e)
+  lane_refused : (e : CoreRefusal) → (e ≡ Memory) ⊎ (done ≡ Refused e) → (e ≡ Memory) ⊎ (with_next (with_held gate held) (Some lane) ≡ Refused e)
   lane_refused e why = ⊎_elim (λ m. inl m) (λ r. inr (lane_turned ∙ ap (holding (remove held place)) r)) why
 
-  pub lane_room : (h : Handled) (room : Room) → IsPieceRoom p room → RoomIsBack (lane_piece (with_held gate held) (Some lane)) (turn_with lane h room)
+  lane_room : (h : Handled) (room : Room) → IsPieceRoom p room → RoomIsBack (lane_piece (with_held gate held) (Some lane)) (turn_with lane h room)
   lane_room h room has = subst (λ l. RoomIsBack (first_piece l) (turn_with lane h room)) (sym at.first) (subst (λ q. BringsRoom q (turn_with lane h room)) (sym p_is) (by h))
     where
       by : (x : Handled) → BringsRoom p (turn_with lane x room)
@@ -124,12 +116,6 @@ module _ (gate : CoreState) (held : List (ℕ × Piece)) (lane place : ℕ) (p :
       by handled.Ended = has
       by handled.Idled = has
       by (handled.Restart name) = has
-
-pub turned_next : (s : CoreState) (o : Option ℕ) → s.all_copied ≡ false → chosen_lane s ≡ o → turned s ≡ with_next s o
-turned_next s o due is = rw (due, is) refl
-
-pub piece_next : (s : CoreState) (o : Option ℕ) → s.all_copied ≡ false → chosen_lane s ≡ o → next_piece s ≡ lane_piece s o
-piece_next s o due is = rw (due, is) refl
 
 -- ---- the head of a lane
 
@@ -161,50 +147,6 @@ module _ (s gate : CoreState) (held : List (ℕ × Piece)) (lane place : ℕ) (x
   head_room h room t has t_is =
       subst (λ (y : CoreState). RoomIsBack (lane_piece y (Some lane)) t) is
       (subst (λ u. RoomIsBack (lane_piece (with_held gate held) (Some lane)) u) (sym t_is) (lane_room gate held lane place x.1 at_here piece_is h room has))
-
-
--- ---- a whole turn
-
--- where the end of all copies is due, it is sent
-pub all_copied_turned : (s : CoreState) → s.all_copied ≡ true → turned s ≡ Went (record s { all_copied = false }) (SentAllCopied ∷ []) AllCopied
-all_copied_turned s due = rw due refl
-
-pub all_copied_went : (journals : Bool) (s now : CoreState) (before behind : List ℕ) → s.all_copied ≡ true → now ≡ record s { all_copied = false } →
-    behind ≡ before ++ message_bytes (plain_event no_head COPY_COMPLETED ∷ []) → WentSo journals (turned s) now turn.AllCopied before behind
-all_copied_went journals s now before behind due is wrote =
-    subst (λ t. WentSo journals t now turn.AllCopied before behind) (sym (all_copied_turned s due))
-    (is, tt, wrote ∙ ap (λ l. before ++ l) (sym (append-nil _ ∙ append-nil _)))
-
-pub all_copied_room : (s : CoreState) (t : Turn) → s.all_copied ≡ true → RoomIsBack (next_piece s) t
-all_copied_room s t due = subst (λ o. RoomIsBack o t) (sym (none due)) tt
-  where
-    none : s.all_copied ≡ true → next_piece s ≡ None
-    none is = rw is refl
-
--- the turn of the lane that is next is the core's turn
-pub lane_turn : (s new : CoreState) (lane : ℕ) (before behind : List ℕ) (r : Result Turn CoreRefusal) → s.all_copied ≡ false → chosen_lane s ≡ Some lane →
-    IsTurned (with_next s (Some lane)) s new before behind r → IsTurned (turned s) s new before behind r
-lane_turn s new lane before behind r due is done = subst (λ t. IsTurned t s new before behind r) (sym (turned_next s (Some lane) due is)) done
-
-pub lane_turn_room : (s : CoreState) (lane : ℕ) (r : Result Turn CoreRefusal) → s.all_copied ≡ false → chosen_lane s ≡ Some lane →
-    IfOk r (λ t. RoomIsBack (lane_piece s (Some lane)) t) → IfOk r (λ t. RoomIsBack (next_piece s) t)
-lane_turn_room s lane r due is back = subst (λ o. IfOk r (λ t. RoomIsBack o t)) (sym (piece_next s (Some lane) due is)) back
-
--- where no lane is next, the core is at rest
-pub rest_turn : (s : CoreState) (before : List ℕ) (r : Result Turn CoreRefusal) → s.all_copied ≡ false → chosen_lane s ≡ None →
-    IsRested (at_rest s) s r → IsTurned (turned s) s s before before r
-rest_turn s before r due none rests = subst (λ t. IsTurned t s s before before r) (sym (turned_next s None due none)) (by r rests)
-  where
-    by : (x : Result Turn CoreRefusal) → IsRested (at_rest s) s x → IsTurned (at_rest s) s s before before x
-    by (Ok t) h = subst (λ u. WentSo s.flags.include_journals u s t before before) (sym h.1) (refl, h.2, sym (append-nil before))
-    by (Err e) h = (refl, refl, inl h)
-
-pub rest_room : (s : CoreState) (r : Result Turn CoreRefusal) → s.all_copied ≡ false → chosen_lane s ≡ None → IsRested (at_rest s) s r → IfOk r (λ t. RoomIsBack (next_piece s) t)
-rest_room s r due none rests = subst (λ o. IfOk r (λ t. RoomIsBack o t)) (sym (piece_next s None due none)) (by r rests)
-  where
-    by : (x : Result Turn CoreRefusal) → IsRested (at_rest s) s x → IfOk x (λ t. RoomIsBack None t)
-    by (Ok t) h = tt
-    by (Err e) h = tt
 
 -- ---- at rest
 

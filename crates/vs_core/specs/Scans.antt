@@ -1,5 +1,5 @@
 -- What is read of one lane or one shard at a time.
-use Rattle.std.specs.Prelude.{ℕ, Bool, true, false, List, [], ◌∷◌, Option, Some, None, slice_get}
+use Rattle.std.specs.Prelude.{ℕ, Bool, true, false, List, Option, None, slice_get}
 use Rattle.std.specs.Option.{option_map_or}
 use Rattle.vs_base.specs.declared.ShardName.{ShardName}
 use Rattle.vs_base.specs.Names.{same_name}

@@ -11,7 +11,7 @@ use Rattle.vs_core.specs.declared.refusal.CoreRefusal.{CoreRefusal}
 use Rattle.vs_core.specs.declared.refusal.CoreRefusal.TheVariants.{Memory}
 use Rattle.vs_core.specs.Choices.{held_of}
 use Rattle.vs_core.specs.Rooms.{IsPieceRoom}
-use Rattle.vs_core.specs.Machine.{CoreState, Sent, TurnTold, Turned, chosen_lane}
+use Rattle.vs_core.specs.Machine.{CoreState, TurnTold, Turned, chosen_lane}
 use Rattle.vs_core.specs.Machine.Turned.{Went, Refused}
 use Rattle.vs_core.specs.Machine.TurnTold.{Frame, Switched, Halted, AllCopied, Arrives, Ended, Idled, Restart, Nothing, Done, Stuck}
 use Rattle.vs_core.specs.Spelling.{stream_bytes}

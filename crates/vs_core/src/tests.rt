@@ -12,9 +12,11 @@ use vs_request::Flags;
 use vs_vector::{Place, ShardAt, Vector};
 
 /// The journal in which two shards merge, and that in which one is split.
-const MERGE: &[u8] = b"id:9 migration_type:SHARDS shard_gtids:{keyspace:'c' shard:'0' gtid:'MySQL56/00000000-0000-0000-0000-00000000000f:1'} participants:{keyspace:'c' shard:'-80'} participants:{keyspace:'c' shard:'80-'}";
+const MERGE: &[u8] =
+    b"id:9 migration_type:SHARDS shard_gtids:{keyspace:'c' shard:'0' gtid:'MySQL56/00000000-0000-0000-0000-00000000000f:1'} participants:{keyspace:'c' shard:'-80'} participants:{keyspace:'c' shard:'80-'}";
 
-const SPLIT: &[u8] = b"id:7 migration_type:SHARDS shard_gtids:{keyspace:'c' shard:'-40' gtid:'MySQL56/00000000-0000-0000-0000-00000000000b:1'} shard_gtids:{keyspace:'c' shard:'40-80' gtid:'MySQL56/00000000-0000-0000-0000-00000000000d:1'} participants:{keyspace:'c' shard:'-80'}";
+const SPLIT: &[u8] =
+    b"id:7 migration_type:SHARDS shard_gtids:{keyspace:'c' shard:'-40' gtid:'MySQL56/00000000-0000-0000-0000-00000000000b:1'} shard_gtids:{keyspace:'c' shard:'40-80' gtid:'MySQL56/00000000-0000-0000-0000-00000000000d:1'} participants:{keyspace:'c' shard:'-80'}";
 
 /// The shards of the lanes, and the last digit of the UUIDs in their logs.
 const LANES: [(&[u8], &[u8], u8); 4] = [
@@ -30,20 +32,76 @@ const LANES: [(&[u8], &[u8], u8); 4] = [
 /// last with Done (D).
 const ORDERS: [&[(u8, usize, u64)]; 3] = [
     &[
-        (b't', 0, 1), (b'j', 0, 0), (b't', 1, 1), (b'j', 1, 0), (b't', 2, 1), (b't', 2, 2), (b't', 2, 3), (b'e', 2, 0),
-        (b'F', 0, 0), (b'A', 0, 0), (b'F', 1, 0), (b'S', 1, 0), (b'F', 2, 0), (b'F', 2, 0), (b'F', 2, 0), (b'E', 2, 0),
-        (b'b', 3, 0), (b't', 3, 2), (b'e', 3, 0), (b'F', 3, 0), (b'E', 3, 0), (b'D', 0, 0),
+        (b't', 0, 1),
+        (b'j', 0, 0),
+        (b't', 1, 1),
+        (b'j', 1, 0),
+        (b't', 2, 1),
+        (b't', 2, 2),
+        (b't', 2, 3),
+        (b'e', 2, 0),
+        (b'F', 0, 0),
+        (b'A', 0, 0),
+        (b'F', 1, 0),
+        (b'S', 1, 0),
+        (b'F', 2, 0),
+        (b'F', 2, 0),
+        (b'F', 2, 0),
+        (b'E', 2, 0),
+        (b'b', 3, 0),
+        (b't', 3, 2),
+        (b'e', 3, 0),
+        (b'F', 3, 0),
+        (b'E', 3, 0),
+        (b'D', 0, 0),
     ],
     &[
-        (b't', 2, 1), (b't', 2, 2), (b't', 2, 3), (b'e', 2, 0), (b't', 1, 1), (b'j', 1, 0), (b't', 0, 1), (b'j', 0, 0),
-        (b'F', 2, 0), (b'F', 2, 0), (b'F', 2, 0), (b'E', 2, 0), (b'F', 1, 0), (b'A', 1, 0), (b'F', 0, 0), (b'S', 0, 0),
-        (b'b', 3, 0), (b't', 3, 2), (b'e', 3, 0), (b'F', 3, 0), (b'E', 3, 0), (b'D', 0, 0),
+        (b't', 2, 1),
+        (b't', 2, 2),
+        (b't', 2, 3),
+        (b'e', 2, 0),
+        (b't', 1, 1),
+        (b'j', 1, 0),
+        (b't', 0, 1),
+        (b'j', 0, 0),
+        (b'F', 2, 0),
+        (b'F', 2, 0),
+        (b'F', 2, 0),
+        (b'E', 2, 0),
+        (b'F', 1, 0),
+        (b'A', 1, 0),
+        (b'F', 0, 0),
+        (b'S', 0, 0),
+        (b'b', 3, 0),
+        (b't', 3, 2),
+        (b'e', 3, 0),
+        (b'F', 3, 0),
+        (b'E', 3, 0),
+        (b'D', 0, 0),
     ],
     &[
-        (b't', 0, 1), (b't', 1, 1), (b't', 2, 1), (b'j', 0, 0), (b'j', 1, 0), (b't', 2, 2),
-        (b'F', 0, 0), (b'F', 1, 0), (b'F', 2, 0), (b'A', 0, 0), (b'S', 1, 0), (b'F', 2, 0),
-        (b'b', 3, 0), (b't', 3, 2), (b'F', 3, 0), (b't', 2, 3), (b'e', 3, 0), (b'F', 2, 0), (b'E', 3, 0),
-        (b'e', 2, 0), (b'E', 2, 0), (b'D', 0, 0),
+        (b't', 0, 1),
+        (b't', 1, 1),
+        (b't', 2, 1),
+        (b'j', 0, 0),
+        (b'j', 1, 0),
+        (b't', 2, 2),
+        (b'F', 0, 0),
+        (b'F', 1, 0),
+        (b'F', 2, 0),
+        (b'A', 0, 0),
+        (b'S', 1, 0),
+        (b'F', 2, 0),
+        (b'b', 3, 0),
+        (b't', 3, 2),
+        (b'F', 3, 0),
+        (b't', 2, 3),
+        (b'e', 3, 0),
+        (b'F', 2, 0),
+        (b'E', 3, 0),
+        (b'e', 2, 0),
+        (b'E', 2, 0),
+        (b'D', 0, 0),
     ],
 ];
 
@@ -54,7 +112,8 @@ const MERGED: [&[u8]; 2] = [
 ];
 
 /// The frame of the statement `drop table t`, which is the first of its shard's log.
-const DROPPED: &[u8] = b"\0\0\0\x64\x0a\x46\x08\x0f\x10\x64\x3a\x38\x0a\x36\x0a\x01c\x12\x010\x1a\x2eMySQL56/00000000-0000-0000-0000-000000000001:1\xb2\x01\x01c\xba\x01\x010\x0a\x1a\x08\x05\x10\x64\x22\x0cdrop table t\xb2\x01\x01c\xba\x01\x010";
+const DROPPED: &[u8] =
+    b"\0\0\0\x64\x0a\x46\x08\x0f\x10\x64\x3a\x38\x0a\x36\x0a\x01c\x12\x010\x1a\x2eMySQL56/00000000-0000-0000-0000-000000000001:1\xb2\x01\x01c\xba\x01\x010\x0a\x1a\x08\x05\x10\x64\x22\x0cdrop table t\xb2\x01\x01c\xba\x01\x010";
 
 fn name(alloc: Global, keyspace: &[u8], shard: &[u8]) -> Result<ShardName, Fail> {
     let keyspace = Text::from_bytes(alloc, keyspace)?;
@@ -95,21 +154,23 @@ fn core_over(alloc: Global, shards: &[(&[u8], &[u8], u8)]) -> Result<Core, Fail>
     Ok(Core::new(alloc, vector, flags, true)?)
 }
 
-fn begin(core: &mut Core, name: &ShardName) -> Result<(), Fail> {
+fn begin(core: &mut Core, name: &ShardName) -> Result<(), &'static str> {
     if !core.may_begin(name) {
-        return Err("the lane can't begin".into());
+        return Err("the lane can't begin");
     }
-    core.begin(name)?;
-    Ok(())
+    match core.begin(name) {
+        Ok(_) => Ok(()),
+        Err(_) => Err("out of memory"),
+    }
 }
 
-fn take(core: &mut Core, lane: usize, piece: Piece) -> Result<(), Fail> {
+fn take(core: &mut Core, lane: usize, piece: Piece) -> Result<(), &'static str> {
     if !core.may_take(lane) {
-        return Err("the piece can't be taken".into());
+        return Err("the piece can't be taken");
     }
     match core.take(lane, piece) {
         Ok(()) => Ok(()),
-        Err(_) => Err("out of memory".into()),
+        Err(_) => Err("out of memory"),
     }
 }
 
@@ -123,10 +184,8 @@ fn dropped(alloc: Global, name: &ShardName, gtid: Gtid) -> Result<Body, Fail> {
     let bound = Bound {
         tables: List::new(alloc),
     };
-    match render(alloc, &entry, name, &bound, room(alloc)?) {
-        Ok(body) => Ok(body),
-        Err(_) => Err("no body".into()),
-    }
+    let body = render(alloc, &entry, name, &bound, room(alloc)?).ok();
+    Ok(body.ok_or("no body")?)
 }
 
 fn journal(alloc: Global, text: &[u8]) -> Result<JournalValue, Fail> {
@@ -163,7 +222,12 @@ fn told(turn: &Turn) -> (u8, usize) {
     match turn {
         Turn::Frame { lane, room: _ } => (b'F', *lane),
         Turn::Arrived { lane, room: _ } => (b'A', *lane),
-        Turn::Switched { lane, room: _, retired: _, started: _ } => (b'S', *lane),
+        Turn::Switched {
+            lane,
+            room: _,
+            retired: _,
+            started: _,
+        } => (b'S', *lane),
         Turn::Ended { lane, room: _ } => (b'E', *lane),
         Turn::Done => (b'D', 0),
         _ => (b'?', 0),
@@ -180,10 +244,12 @@ fn go(
     let (letter, lane, number) = step;
     if letter == b'b' {
         let (keyspace, shard, _) = *LANES.get(lane).ok_or("no such lane")?;
-        return begin(core, &name(alloc, keyspace, shard)?);
+        begin(core, &name(alloc, keyspace, shard)?)?;
+        return Ok(());
     }
     if letter > b'Z' {
-        return take(core, lane, piece(alloc, letter, lane, number)?);
+        take(core, lane, piece(alloc, letter, lane, number)?)?;
+        return Ok(());
     }
     let turn = core.turn(alloc, out)?;
     assert_eq!(rt; told(&turn), (letter, lane));
@@ -225,7 +291,15 @@ fn a_statement_is_sent_with_the_vector(rt: HostRuntime) -> Result<(), Fail> {
     begin(&mut core, &name)?;
     let gtid = gtid(1, 1)?;
     let body = dropped(alloc, &name, gtid)?;
-    take(&mut core, 0, Piece::Tx { gtid, time: 100, body })?;
+    take(
+        &mut core,
+        0,
+        Piece::Tx {
+            gtid,
+            time: 100,
+            body,
+        },
+    )?;
     let mut out = Vec::new(alloc);
     let turn = core.turn(alloc, &mut out)?;
     assert_eq!(rt; told(&turn), (b'F', 0));
@@ -242,10 +316,21 @@ fn a_journal_of_a_shard_of_the_stream_is_a_stranger_elsewhere(rt: HostRuntime) -
     let gtid = gtid(14, 1)?;
     let body = dropped(alloc, &name, gtid)?;
     let journal = journal(alloc, SPLIT)?;
-    take(&mut core, 0, Piece::Foreign { gtid, time: 100, journal, body })?;
+    take(
+        &mut core,
+        0,
+        Piece::Foreign {
+            gtid,
+            time: 100,
+            journal,
+            body,
+        },
+    )?;
     let mut out = Vec::new(alloc);
     let refused = core.turn(alloc, &mut out);
-    assert!(rt; matches!(&refused, Err(CoreRefusal::Stranger { id: 7, shard }) if shard.is_same(&name)));
+    assert!(rt;
+        matches!(&refused, Err(CoreRefusal::Stranger { id: 7, shard }) if shard.is_same(&name))
+    );
     assert!(rt; out.is_empty());
     Ok(())
 }

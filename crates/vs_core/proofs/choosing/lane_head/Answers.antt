@@ -1,4 +1,4 @@
-use Rattle.std.proofs.Common.{◌≡◌, ℕ, ◌+◌, None, Some, length, take, refl, ap, sym, ◌∙◌, add-one, arith}
+use Rattle.std.proofs.Common.{ℕ, Some, length, take, refl, ap, sym, ◌∙◌, add-one, arith}
 use Rattle.std.proofs.lemmas.Bool.{eq-eqb}
 use Rattle.std.proofs.lemmas.Option.{slice_get_read}
 use Rattle.vs_pace.specs.declared.head.Head.{Head}

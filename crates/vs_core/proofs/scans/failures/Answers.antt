@@ -7,7 +7,7 @@ use Rattle.vs_core.proofs.scans.failures.Goals.{then-has_failed, else-has_failed
 
 pub loop-lane-preserved : goal.loop-lane-preserved
 loop-lane-preserved c = elim c.if-has_failed.branch [
-  then-has_failed w ↦ (
+  | then-has_failed w ↦ (
     failed_step c.args.name.now c.args.names.now c.args.states.now c.loop-lane.lane c.lane_state.result c.lane_state.ensures c.loop-lane.failed c.if-has_failed.failed c.loop-lane.invariant.0
         (sym c.has_failed.ensures ∙ w.if-has_failed.true) w.failed-is,
     omega (arith, c.loop-lane.invariant.1, w.failed-is),

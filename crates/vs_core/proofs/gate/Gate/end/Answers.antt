@@ -1,4 +1,4 @@
-use Rattle.std.proofs.Common.{◌≡◌, ap, sym, subst, ◌∙◌, slice_get, Result}
+use Rattle.std.proofs.Common.{ap, sym, subst, ◌∙◌, slice_get}
 use Rattle.vs_render.specs.declared.piece.EndCause.{EndCause}
 use Rattle.vs_render.specs.declared.piece.EndCause.TheVariants as cause
 use Rattle.vs_render.specs.declared.piece.Piece.TheVariants as piece

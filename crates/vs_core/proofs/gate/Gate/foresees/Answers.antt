@@ -1,8 +1,8 @@
-use Rattle.std.proofs.Common.{◌≡◌, ◌<◌, length, ap, sym, subst, ◌∙◌, arith, ⊎_elim, inl, inr}
+use Rattle.std.proofs.Common.{◌<◌, length, ap, sym, subst, ◌∙◌, arith, ⊎_elim, inl, inr}
 use Rattle.vs_gtid.specs.Vectors.{stands}
 use Rattle.vs_gather.specs.Gathering.{arrival}
 use Rattle.vs_core.specs.Machine.{CoreState}
-use Rattle.vs_core.proofs.HeadLemmas.{arrival_told, named_at}
+use Rattle.vs_core.proofs.ArrivalLemmas.{arrival_told, named_at}
 use Rattle.vs_core.proofs.gate.Gate.foresees.Goals as goal
 
 pub returns-in-Ok-clause-ok : goal.returns-in-Ok-clause-ok

@@ -1,7 +1,7 @@
 use Rattle.std.proofs.Common.{ap, ◌∙◌}
 use Rattle.vs_gather.specs.Gathering.{arrival}
 use Rattle.vs_core.specs.Machine.{CoreState}
-use Rattle.vs_core.proofs.HeadLemmas.{named_at, will_complete}
+use Rattle.vs_core.proofs.ArrivalLemmas.{named_at, will_complete}
 use Rattle.vs_core.proofs.gate.Gate.halt_at.Goals as goal
 
 pub complete-requires-clause-completes : goal.complete-requires-clause-completes

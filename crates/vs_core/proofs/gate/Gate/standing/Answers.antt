@@ -1,4 +1,4 @@
-use Rattle.std.proofs.Common.{◌≡◌, ◌||◌, ap, sym, ◌∙◌, true, false, slice_get}
+use Rattle.std.proofs.Common.{◌||◌, ap, ◌∙◌, true, slice_get}
 use Rattle.std.specs.Option.{option_map_or}
 use Rattle.vs_base.specs.declared.ShardName.{ShardName}
 use Rattle.vs_gather.specs.Gathering.{waits}

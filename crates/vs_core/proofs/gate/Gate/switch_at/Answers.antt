@@ -1,4 +1,4 @@
-use Rattle.std.proofs.Common.{◌++◌, ◌∷◌, ap, sym, refl, ◌∙◌, [], List, ℕ, slice_set}
+use Rattle.std.proofs.Common.{◌++◌, ◌∷◌, ap, sym, ◌∙◌, [], List, ℕ, slice_set}
 use Rattle.vs_gather.specs.Gathering.{arrival}
 use Rattle.vs_gtid.specs.Vectors.{switched}
 use Rattle.vs_proto.specs.Frames.{message_bytes}
@@ -7,7 +7,7 @@ use Rattle.vs_render.specs.Events.{no_head, vector_event}
 use Rattle.vs_core.specs.Framing.{journal_events}
 use Rattle.vs_core.specs.Machine.{CoreState}
 use Rattle.vs_core.specs.declared.lane.LaneState.TheVariants.{Over}
-use Rattle.vs_core.proofs.HeadLemmas.{named_at, switch_went, will_complete}
+use Rattle.vs_core.proofs.ArrivalLemmas.{named_at, switch_went, will_complete}
 use Rattle.vs_core.proofs.gate.Gate.switch_at.Goals as goal
 
 pub complete-requires-clause-completes : goal.complete-requires-clause-completes

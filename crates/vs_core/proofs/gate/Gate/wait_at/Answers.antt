@@ -2,7 +2,7 @@ use Rattle.std.proofs.Common.{ap, sym, refl, ◌∙◌, [], slice_set}
 use Rattle.vs_gather.specs.Gathering.{arrival}
 use Rattle.vs_core.specs.Machine.{CoreState}
 use Rattle.vs_core.specs.declared.lane.LaneState.TheVariants.{Over}
-use Rattle.vs_core.proofs.HeadLemmas.{named_at, wait_went, will_wait}
+use Rattle.vs_core.proofs.ArrivalLemmas.{named_at, wait_went, will_wait}
 use Rattle.vs_core.proofs.gate.Gate.wait_at.Goals as goal
 
 pub keep-requires-clause-waits : goal.keep-requires-clause-waits

@@ -1,9 +1,6 @@
-use Rattle.std.proofs.Common.{◌≡◌, ◌&&◌, ◌||◌, Bool, true, false, ap, sym, refl, subst, ◌∙◌}
-use Rattle.std.specs.List.{list_all, list_any}
-use Rattle.vs_base.specs.declared.ShardName.{ShardName}
-use Rattle.vs_gather.specs.Gathering.{AreWaiting, waits}
-use Rattle.vs_gtid.specs.Vectors.{names}
-use Rattle.vs_core.specs.Machine.{CoreState, is_at_end}
+use Rattle.std.proofs.Common.{◌≡◌, ◌&&◌, Bool, true, false, ap, sym, refl, subst, ◌∙◌}
+use Rattle.vs_gather.specs.Gathering.{AreWaiting}
+use Rattle.vs_core.specs.Machine.{CoreState}
 use Rattle.vs_core.specs.declared.turn.Turn.TheVariants as turn
 use Rattle.vs_core.proofs.TurnLemmas.{all_ended, all_rest, ends_done, ends_stuck, goes_on, is_stopped, rests_still, some_wait}
 use Rattle.vs_core.proofs.machine.Core.at_rest.Goals as goal
@@ -39,6 +36,6 @@ returns c =
     rests_still s turn.Nothing refl (is_stopped s (ap (λ (y : CoreState). y.until_end) (sym c.self.view_is) ∙ sym c.until_end.ensures ∙ c.if-not-until_end.false)
     (ap all_ended (sym c.self.view_is) ∙ sym c.standing-standing.ensures.ended ∙ c.if-standing.false)
     (elim c.else-standing-2.branch as (λ _. (all_rest s && some_wait s) ≡ false) [
-      else-standing-2-via-then-standing-2+else-standing-3 w ↦ not_both (all_rest s) (some_wait s) (ap some_wait (sym c.self.view_is) ∙ sym c.standing-standing.ensures.wait ∙ w.if-standing-3.false)
+      | else-standing-2-via-then-standing-2+else-standing-3 w ↦ not_both (all_rest s) (some_wait s) (ap some_wait (sym c.self.view_is) ∙ sym c.standing-standing.ensures.wait ∙ w.if-standing-3.false)
       | else-standing-2-via-else-standing-2 w ↦ ap (λ b. b && some_wait s) (ap all_rest (sym c.self.view_is) ∙ sym c.standing-standing.ensures.rest ∙ w.if-standing-2.false)
     ]))

@@ -1,4 +1,4 @@
-use Rattle.std.proofs.Common.{◌≡◌, ◌<◌, ℕ, Some, length, map, ap, sym, subst, ◌∙◌, slice_get, arith}
+use Rattle.std.proofs.Common.{◌<◌, ℕ, length, map, ap, sym, subst, ◌∙◌, slice_get, arith}
 use Rattle.vs_pace.specs.Heads.{IsNext}
 use Rattle.vs_pace.specs.declared.head.Head.{Head}
 use Rattle.vs_core.specs.Choices.{heads_below}

@@ -1,4 +1,4 @@
-use Rattle.std.proofs.Common.{◌≡◌, Some, length, refl, slice_get}
+use Rattle.std.proofs.Common.{length, refl}
 use Rattle.std.proofs.lemmas.Option.{slice_get_read, slice_get_within}
 use Rattle.vs_core.proofs.ScanLemmas.{item_at}
 use Rattle.vs_core.proofs.TurnLemmas.{head_refused, head_room, head_went}
