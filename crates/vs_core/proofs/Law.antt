@@ -40,7 +40,7 @@ use Rattle.vs_render.specs.declared.piece.Piece.{Piece}
 use Rattle.vs_render.specs.declared.piece.Piece.TheVariants as piece
 use Rattle.vs_render.specs.declared.piece.EndCause.TheVariants as cause
 use Rattle.vs_base.specs.Limits.{most_intervals}
-use Rattle.vs_vector.specs.Places.{place_position}
+use Rattle.vs_vector.specs.Places.{most_shards, place_position}
 use Rattle.vs_vector.specs.Changes.{place_with, moved_to, advanced_from, advanced, set_to}
 use Rattle.vs_vector.specs.declared.refusal.VectorRefusal.TheVariants.{Absent, TooManyIntervals}
 use Rattle.vs_gather.specs.Gathering.{concerns, arrival_unless, arrives, arrived_of, kept_of, arrival_refusal, differs, kept_with, kept_without, has_id, adds_nothing}
@@ -471,13 +471,13 @@ module _ (spells : BodySpelling) (cluster : Cluster) (rules : Filter) (distinct 
                   Limited b = (if b then Refused (TooManyShards (length (switched s.vector j)))
                       else Went (record over { vector = switched s.vector j; kept = kept_without j.id s.kept }) (SentSwitch j (switched s.vector j) ∷ []) (Switched k j.participants (map (λ x. x.name) j.successors))) ≡ Went new more told_it
 
-                  limited : (b : Bool) → nat_lt 64 (length (switched s.vector j)) ≡ b → Limited b → Then new more
+                  limited : (b : Bool) → nat_lt most_shards (length (switched s.vector j)) ≡ b → Limited b → Then new more
                   limited true p h = absurd (not_refused _ _ _ _ h)
                   limited false p h = switches h
 
                   by : (b : Bool) → s.flags.stop_on_reshard ≡ b → Then new more
                   by true p = halts (kept_without j.id s.kept) (with_kept (kept_without j.id s.kept) (all_without _ s.kept lanes_over.come)) (subst Tested p is)
-                  by false p = limited (nat_lt 64 (length (switched s.vector j))) refl (subst Limited refl (subst Tested p is))
+                  by false p = limited (nat_lt most_shards (length (switched s.vector j))) refl (subst Limited refl (subst Tested p is))
 
             arrives_to : Goal (arrived_by over k j (Ok (arrives n j Arrived_then s.kept)))
             arrives_to is = by (adds_nothing n j Arrived_then) refl

@@ -5,3 +5,7 @@ pub mod StepFacts
 pub mod Law
 pub mod Bytes
 pub mod NextLemmas
+pub mod LaneStates
+pub mod TurnLemmas
+pub mod ArrivalLemmas
+pub mod ScanLemmas

@@ -191,3 +191,27 @@ front_next n k p held less =
           ∙ ap (option_map (λ h. h.0)) (first_zero (heads_below k ((k, p) ∷ held)) split.0 (k, head_is p 0) refl (behind_lanes k k p held (omega arith))),
       head_stands k ((k, p) ∷ held) (head_is p 0) (head_at k (k, p) held (eq-eqb k k refl)),
     )
+
+-- ---- from the lists of numbers and heads
+
+pub front_at : (skew n : ℕ) (held : Held) (lane : ℕ) (p : Piece) → skew ≡ 0 → slice_get held 0 ≡ Some (lane, p) → lane < n → IsNextPlace (next_lane skew n held) held (Some (lane, 0))
+front_at skew n [] lane p none at less = let pair : ℕ × Piece = (lane, p) in absurd (some_is_not_none pair (sym at))
+front_at skew n (y ∷ held) lane p none at less =
+    let pair : ℕ × Piece = (lane, p) in
+    let is : y ≡ pair = same_some y pair at in
+    subst (λ s. IsNextPlace (next_lane s n (y ∷ held)) (y ∷ held) (Some (lane, 0))) (sym none)
+    (subst (λ z. IsNextPlace (next_lane 0 n (z ∷ held)) (z ∷ held) (Some (lane, 0))) (sym is) (front_next n lane p held less))
+
+both_at : (hs : List (ℕ × Head)) (i lane : ℕ) (head : Head) → slice_get (map (λ h. h.0) hs) i ≡ Some lane → slice_get (map (λ h. h.1) hs) i ≡ Some head → slice_get hs i ≡ Some (lane, head)
+both_at [] i lane head at head_at = absurd (some_is_not_none lane (sym at))
+both_at (h ∷ hs) zero lane head at head_at =
+    let with_lane_of : ℕ → ℕ × Head = λ l. (l, h.1) in
+    let with_head : Head → ℕ × Head = λ x. (lane, x) in
+    ap (λ l. Some (with_lane_of l)) (same_some h.0 lane at) ∙ ap (λ x. Some (with_head x)) (same_some h.1 head head_at)
+both_at (h ∷ hs) (suc i) lane head at head_at = both_at hs i lane head at head_at
+
+pub chosen_at : (skew n : ℕ) (held : Held) (lanes : List ℕ) (heads : List Head) (i lane : ℕ) (head : Head) → lanes ≡ map (λ h. h.0) (heads_below n held) → heads ≡ map (λ h. h.1) (heads_below n held) →
+    IsNext skew heads i → slice_get lanes i ≡ Some lane → slice_get heads i ≡ Some head → IsNextPlace (next_lane skew n held) held (Some (lane, head.taken))
+chosen_at skew n held lanes heads i lane head lanes_are heads_are next at head_at =
+    next_is skew n held i (lane, head) (subst (λ l. IsNext skew l i) heads_are next)
+    (both_at (heads_below n held) i lane head (sym (ap (λ l. slice_get l i) lanes_are) ∙ at) (sym (ap (λ l. slice_get l i) heads_are) ∙ head_at))

@@ -3,3 +3,7 @@ pub mod Machine
 pub mod Runs
 pub mod Spelling
 pub mod Rooms
+pub mod Tells
+pub mod Framing
+pub mod Scans
+pub mod Arrivals

@@ -14,6 +14,7 @@ use Rattle.vs_render.specs.declared.piece.Piece.TheVariants as piece
 use Rattle.vs_render.specs.declared.piece.EndCause.{EndCause}
 use Rattle.vs_render.specs.declared.piece.EndCause.TheVariants as cause
 use Rattle.vs_vector.specs.Changes.{advanced, set_to}
+use Rattle.vs_vector.specs.Places.{most_shards}
 use Rattle.vs_vector.specs.declared.refusal.VectorRefusal.{VectorRefusal}
 use Rattle.vs_vector.specs.declared.refusal.VectorRefusal.TheVariants as vector
 use Rattle.vs_gather.specs.Gathering.{Arrived, arrival, concerns, waits}
@@ -153,7 +154,7 @@ moved_by s k name time body (Err e) = Refused (why_not_moved name e)
 -- the journal takes effect
 abbrev pub switched_to : CoreState → ℕ → JournalValue → Vector → Turned
 switched_to s k j w =
-    if nat_lt 64 (length w) then Refused (refused.TooManyShards (length w))
+    if nat_lt most_shards (length w) then Refused (refused.TooManyShards (length w))
     else Went (record s { vector = w }) (SentSwitch j w ∷ []) (Switched k j.participants (map (λ n. n.name) j.successors))
 
 abbrev pub completed : CoreState → ℕ → JournalValue → Turned

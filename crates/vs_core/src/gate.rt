@@ -1,6 +1,7 @@
 //! The core but for the pieces that it holds.
 ghost use Rattle.std.specs.Prelude.{◌≡◌, ◌++◌, ◌∷◌, IfOk, OnErr, OnOk, [], length};
 ghost use Rattle.vs_core.specs.Machine.{initial, lane_begun};
+ghost use Rattle.vs_gather.specs.Gathering.{AreWaiting};
 
 use crate::{LaneState, OutOfMemory};
 use std::alloc::{AllocError, Global};
@@ -47,6 +48,34 @@ impl Gate {
             flags,
             until_end,
         }
+    }
+
+    /// The skew that was asked for, in seconds.
+    pub(crate) fn max_skew(&self) -> u64
+        ensures { result ≡ self.now.flags.max_skew }
+    {
+        self.flags.max_skew
+    }
+
+    /// Whether the end of every log ends the stream.
+    pub(crate) fn until_end(&self) -> bool
+        ensures { result ≡ self.now.until_end }
+    {
+        self.until_end
+    }
+
+    /// The ids of the journals that wait.
+    pub(crate) fn waiting(&self, alloc: Global) -> Result<Vec<i64>, OutOfMemory>
+        ensures { IfOk result (λ ids. AreWaiting ids.items self.now.kept) }
+    {
+        self.gather.waiting(alloc)
+    }
+
+    /// How many lanes were begun.
+    pub(crate) fn lanes(&self) -> usize
+        ensures { result ≡ length self.now.names }
+    {
+        self.names.len()
     }
 
     /// Begins a lane of the shard, and gives its number.
