@@ -148,6 +148,24 @@ fn refused(why: &GatherRefusal) -> Told {
     }
 }
 
+/// What came of an arrival.
+fn told_of(arrived: &Result<Arrival, GatherRefusal>) -> Told {
+    match arrived {
+        Ok(Arrival::Complete(_)) => Told::Completes,
+        Ok(Arrival::Waiting) => Told::Waits,
+        Err(why) => refused(why),
+    }
+}
+
+/// What is foreseen of one.
+fn foreseen_of(foreseen: &Result<bool, GatherRefusal>) -> Told {
+    match foreseen {
+        Ok(true) => Told::Completes,
+        Ok(false) => Told::Waits,
+        Err(why) => refused(why),
+    }
+}
+
 /// What is foreseen of an arrival, and what comes of it; none where the shard isn't in the vector.
 fn arrived(
     alloc: Global,
@@ -159,16 +177,8 @@ fn arrived(
     if !vector.stands(name) {
         return None;
     }
-    let foreseen = match gather.check(alloc, vector, name, &journal) {
-        Ok(true) => Told::Completes,
-        Ok(false) => Told::Waits,
-        Err(why) => refused(&why),
-    };
-    let came = match gather.arrive(vector, name, journal) {
-        Ok(Arrival::Complete(_)) => Told::Completes,
-        Ok(Arrival::Waiting) => Told::Waits,
-        Err(why) => refused(&why),
-    };
+    let foreseen = foreseen_of(&gather.check(alloc, vector, name, &journal));
+    let came = told_of(&gather.arrive(vector, name, journal));
     Some((foreseen, came))
 }
 
