@@ -104,7 +104,9 @@ fn time_turns(rt: &impl std::rt::Clock, alloc: Global, shards: u8) -> Result<u64
         let start = Instant::now(rt)?;
         for _ in 0..ROUND {
             out.clear();
-            let _turn = core.turn(alloc, &mut out)?;
+            if core.turn(alloc, &mut out).is_err() {
+                return Err(anyhow::anyhow!("a turn is refused"));
+            }
         }
         let elapsed = start.elapsed(rt)?;
         spent = spent.saturating_add((elapsed.as_secs() % 1_000_000) * 1_000_000_000 + u64::from(elapsed.subsec_nanos()));
