@@ -45,6 +45,15 @@ impl<X> List<X> {
         }
     }
 
+    /// Without items, and with the memory for so many.
+    pub fn with_capacity(alloc: Global, count: usize) -> Result<List<X>, OutOfMemory>
+        ensures { IfOk result (λ l. l ≡ []) }
+    {
+        Ok(List {
+            items: Vec::with_capacity(alloc, count)?,
+        })
+    }
+
     pub fn from_vec(items: Vec<X>) -> List<X>
         ensures { result ≡ items.items }
     {
