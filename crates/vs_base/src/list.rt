@@ -88,7 +88,7 @@ impl<X: Copied> List<X> {
     pub fn copy(&self, alloc: Global) -> Result<List<X>, OutOfMemory>
         ensures { IfOk result (λ c. c ≡ self.now) }
     {
-        let mut copy = List::new(alloc);
+        let mut copy = List::with_capacity(alloc, self.as_slice().len())?;
         for item in self.as_slice() {
             copy.push(item.copy(alloc)?)?;
         }
