@@ -1,4 +1,4 @@
-ghost use Rattle.std.specs.Prelude.{◌≡◌, ◌≤◌, IfOk, IsOk, OnErr, OnOk, Some, ◌++◌, [], length, nat_eq, refl};
+ghost use Rattle.std.specs.Prelude.{◌≡◌, IfOk, OnErr, OnOk, Some, ◌++◌, [], nat_eq, refl};
 ghost use Rattle.std.specs.Ordering.{nat_cmp};
 ghost use Rattle.std.specs.Hash as fed;
 ghost use Rattle.std.specs.Cmp.Lexicographic.{
@@ -45,8 +45,7 @@ impl Text {
     }
 
     pub fn from_bytes(alloc: Global, bytes: &[u8]) -> Result<Text, OutOfMemory>
-        ensures bytes { IfOk result (λ t. t ≡ bytes.now) }
-        ensures short { length bytes.now ≤ 22 → IsOk result }
+        ensures { IfOk result (λ t. t ≡ bytes.now) }
     {
         Ok(Text {
             bytes: SmallVec::from_slice(alloc, bytes)?,
