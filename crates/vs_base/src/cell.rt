@@ -58,6 +58,15 @@ impl Image {
         }
     }
 
+    /// Without cells, and with the memory for so many.
+    pub fn with_capacity(alloc: Global, count: usize) -> Result<Image, OutOfMemory>
+        ensures { IfOk result (λ i. i ≡ []) }
+    {
+        Ok(Image {
+            cells: List::with_capacity(alloc, count)?,
+        })
+    }
+
     pub fn push(&mut self, cell: Cell) -> Result<(), OutOfMemory>
         ensures ok { OnOk result (self.new ≡ self.old ++ cell ∷ []) }
         ensures err { OnErr result (self.new ≡ self.old) }

@@ -45,6 +45,15 @@ impl<X> List<X> {
         }
     }
 
+    /// Without items, and with the memory for so many.
+    pub fn with_capacity(alloc: Global, count: usize) -> Result<List<X>, OutOfMemory>
+        ensures { IfOk result (λ l. l ≡ []) }
+    {
+        Ok(List {
+            items: Vec::with_capacity(alloc, count)?,
+        })
+    }
+
     pub fn from_vec(items: Vec<X>) -> List<X>
         ensures { result ≡ items.items }
     {
@@ -79,7 +88,7 @@ impl<X: Copied> List<X> {
     pub fn copy(&self, alloc: Global) -> Result<List<X>, OutOfMemory>
         ensures { IfOk result (λ c. c ≡ self.now) }
     {
-        let mut copy = List::new(alloc);
+        let mut copy = List::with_capacity(alloc, self.as_slice().len())?;
         for item in self.as_slice() {
             copy.push(item.copy(alloc)?)?;
         }

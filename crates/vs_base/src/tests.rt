@@ -13,7 +13,11 @@ fn texts_and_lists_keep_what_they_are_given(rt: HostRuntime) -> Result<(), Fail>
     assert_eq!(rt; ab.as_bytes(), b"ab".as_slice());
     assert!(rt; ab.copy(alloc)? == ab);
     assert_eq!(rt; Text::new(alloc).as_bytes().len(), 0);
-    assert_eq!(rt; Text::from_vec(ab.into_vec()).as_bytes(), b"ab".as_slice());
+    let mut vector = Vec::new(alloc);
+    vector.extend_from_slice(&[b'x'; 22])?;
+    let mut long = Text::from_vec(vector);
+    long.append(ab.as_bytes())?;
+    assert_eq!(rt; long.as_bytes(), b"xxxxxxxxxxxxxxxxxxxxxxab".as_slice());
     let mut list = List::new(alloc);
     list.push(7usize)?;
     assert_eq!(rt; list.copy(alloc)?.as_slice(), [7].as_slice());

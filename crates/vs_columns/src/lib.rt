@@ -14,4 +14,4 @@ mod tests;
 pub use kind::{agrees, meta_length};
 pub use laws::{law_digits, law_value};
 pub use refusal::ValueRefusal;
-pub use stored::{put_value, value};
+pub use stored::{put_value, value, value_by};

@@ -40,22 +40,24 @@ pub fn value(
     ensures told { (result ≡ Err ValueRefusal.Memory) ⊎ (result ≡ cell_in (value_of kind.now meta.now bytes.now)) }
     ensures within { IfOk result (λ r. r.1 ≤ length bytes.now) }
 {
-    let mut text = Vec::with_capacity(alloc, room(*kind))?;
-    let used = put_value(kind, meta, bytes, &mut text)?;
-    Ok((Cell::Bytes(Text::from_vec(text)), used))
+    let mut room = Vec::new(alloc);
+    value_by(alloc, kind, meta, bytes, &mut room)
 }
 
-/// Room for texts that are made of parts, so that they take memory once.
-fn room(kind: ColumnKind) -> usize
-    ensures { result ≤ 255 }
+/// The same, made in a buffer that is emptied before: values that are read one behind the other share its memory.
+pub fn value_by(
+    alloc: Global,
+    kind: &ColumnKind,
+    meta: &[u8],
+    bytes: &[u8],
+    room: &mut Vec<u8>,
+) -> Result<(Cell, usize), ValueRefusal>
+    ensures told { (result ≡ Err ValueRefusal.Memory) ⊎ (result ≡ cell_in (value_of kind.now meta.now bytes.now)) }
+    ensures within { IfOk result (λ r. r.1 ≤ length bytes.now) }
 {
-    match kind {
-        ColumnKind::Timestamp { .. } => 17,
-        ColumnKind::DateTime { .. } => 26,
-        ColumnKind::Decimal { .. } => 68,
-        ColumnKind::Binary { length } => length as usize,
-        _ => 0,
-    }
+    room.clear();
+    let used = put_value(kind, meta, bytes, room)?;
+    Ok((Cell::Bytes(Text::from_bytes(alloc, room.as_slice())?), used))
 }
 
 /// Appends the text of the value at the front of the bytes, and answers how many bytes it takes.

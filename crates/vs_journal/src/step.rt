@@ -335,9 +335,9 @@ fn set_text(field: FieldName, text: Text, member: Member) -> Member
 fn appended(front: Text, back: &Text) -> Result<Text, OutOfMemory>
     ensures { IfOk result (λ t. t ≡ front ++ back.now) }
 {
-    let mut bytes = front.into_vec();
-    bytes.extend_from_slice(back.as_bytes())?;
-    Ok(Text::from_vec(bytes))
+    let mut text = front;
+    text.append(back.as_bytes())?;
+    Ok(text)
 }
 
 fn add_text(field: FieldName, text: &Text, member: Member) -> Result<Member, OutOfMemory>

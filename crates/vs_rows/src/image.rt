@@ -24,7 +24,7 @@ use crate::layout::{RowsBody, cut};
 use crate::table::RowTable;
 use std::alloc::Global;
 use vs_base::{Cell, Change, Image, List, Text};
-use vs_columns::{ValueRefusal, value};
+use vs_columns::{ValueRefusal, value_by};
 
 /// The changes of a table that isn't passed over.
 #[tactic(auto, unfolding(crate::specs::Rows::changes_meant))]
@@ -80,10 +80,11 @@ fn read_rows(
 ) -> Result<List<Change>, Fault>
     ensures { GivesSeen (λ changes. changes) result (changes_in kind table.now rows.now) }
 {
+    let mut room = Vec::new(alloc);
     let mut changes = List::new(alloc);
     let mut rest = rows;
     'rows: while !rest.is_empty() {
-        let (change, behind) = read_change(alloc, kind, table, rest)?;
+        let (change, behind) = read_change(alloc, kind, table, rest, &mut room)?;
         if behind.len() >= rest.len() {
             return Err(Fault::Wrong);
         }
@@ -100,16 +101,17 @@ fn read_change<'a>(
     kind: RowsKind,
     table: &RowTable,
     bytes: &'a [u8],
+    room: &mut Vec<u8>,
 ) -> Result<(Change, &'a [u8]), Fault>
     ensures { GivesSeen (λ r. (r.0, r.1.now)) result (change_at kind table.now bytes.now) }
 {
     let columns = table.columns.as_slice();
-    let (first, rest) = read_image(alloc, columns, bytes)?;
+    let (first, rest) = read_image(alloc, columns, bytes, room)?;
     match kind {
         RowsKind::Insert => Ok((change(alloc, table, None, Some(first))?, rest)),
         RowsKind::Delete => Ok((change(alloc, table, Some(first), None)?, rest)),
         RowsKind::Update => {
-            let (after, rest) = read_image(alloc, columns, rest)?;
+            let (after, rest) = read_image(alloc, columns, rest, room)?;
             Ok((change(alloc, table, Some(first), Some(after))?, rest))
         }
     }
@@ -136,13 +138,14 @@ fn read_image<'a>(
     alloc: Global,
     columns: &[RowColumn],
     bytes: &'a [u8],
+    room: &mut Vec<u8>,
 ) -> Result<(Image, &'a [u8]), Fault>
     ensures { GivesSeen (λ r. (r.0, r.1.now)) result (image_at columns.now bytes.now) }
 {
     let Some((nulls, rest)) = cut(bytes, bit_bytes(columns.len())) else {
         return Err(Fault::Wrong);
     };
-    read_cells(alloc, nulls, columns, rest)
+    read_cells(alloc, nulls, columns, rest, room)
 }
 
 /// The cells of the columns, by their null bits.
@@ -151,14 +154,15 @@ fn read_cells<'a>(
     nulls: &[u8],
     columns: &[RowColumn],
     bytes: &'a [u8],
+    room: &mut Vec<u8>,
 ) -> Result<(Image, &'a [u8]), Fault>
     requires { length columns.now ≤ 8 * length nulls.now }
     ensures { GivesSeen (λ r. (r.0, r.1.now)) result (cells_at 0 nulls.now columns.now bytes.now) }
 {
-    let mut image = Image::new(alloc);
+    let mut image = Image::with_capacity(alloc, columns.len())?;
     let mut rest = bytes;
     for (place, column) in columns.iter().enumerate() {
-        let (cell, behind) = read_cell(alloc, has_bit(nulls, place), column, rest)?;
+        let (cell, behind) = read_cell(alloc, has_bit(nulls, place), column, rest, room)?;
         image.push(cell)?;
         rest = behind;
     }
@@ -172,13 +176,14 @@ fn read_cell<'a>(
     is_null: bool,
     column: &RowColumn,
     bytes: &'a [u8],
+    room: &mut Vec<u8>,
 ) -> Result<(Cell, &'a [u8]), Fault>
     ensures { GivesSeen (λ r. (r.0, r.1.now)) result (cell_at is_null column.now bytes.now) }
 {
     if is_null {
         return Ok((null_cell(alloc, column), bytes));
     }
-    match value(alloc, &column.kind, column.meta.as_bytes(), bytes) {
+    match value_by(alloc, &column.kind, column.meta.as_bytes(), bytes, room) {
         Ok((cell, used)) => Ok((cell, &bytes[used..])),
         Err(ValueRefusal::ShortValue) => Err(Fault::Wrong),
         Err(ValueRefusal::BadValue) => Err(Fault::Wrong),

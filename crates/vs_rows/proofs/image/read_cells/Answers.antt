@@ -6,7 +6,7 @@ use Rattle.vs_rows.proofs.image.read_cells.Goals as goal
 
 pub returns-in_err-cell : goal.returns-in_err-cell
 returns-in_err-cell c =
-    let p = err_from_is_err_and c.from_residual.result c.from_residual.ensures.1 in
+    let p = err_from_is_err_and c.from_residual-in_err-cell.result c.from_residual-in_err-cell.ensures.1 in
     rw (p.1, p.2) (cells_fail c.in_err-cell.field-0.0 c.loop-place.image c.loop-place.place c.args.nulls.now c.index-columns-place.result c.args.columns.now c.loop-place.rest.now c.has_bit.result (cells_at 0 c.args.nulls.now c.args.columns.now c.args.bytes.now) c.loop-place-test.true c.index-columns-place.is c.has_bit.ensures c.in_err-cell.ensures c.loop-place.invariant)
 
 pub loop-place-preserved : goal.loop-place-preserved
