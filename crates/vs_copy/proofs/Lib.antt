@@ -8,3 +8,6 @@ mod NextLemmas
 mod BoundLemmas
 mod FindLemmas
 mod ClientLemmas
+mod ToldChangeLemmas
+mod ToldChunkLemmas
+mod RunLemmas
