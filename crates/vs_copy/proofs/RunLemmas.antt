@@ -1,5 +1,5 @@
 -- A client that applies all that a copy tells has the picked rows up to the last row that was sent.
-use Rattle.std.proofs.Common.{◌≡◌, ℕ, Bool, true, false, not, cond, List, [], ◌∷◌, ◌++◌, append_assoc, append-nil, map, Option, Some, None, IfSome, Contains, fold, filter_map, option_and_then, refl, ap, ap₂, sym, ◌∙◌, subst}
+use Rattle.std.proofs.Common.{◌≡◌, ℕ, Bool, true, false, not, cond, List, [], ◌∷◌, ◌++◌, append_assoc, append-nil, map, Option, Some, None, OnOk, IfOk, Result, Ok, Err, IfSome, Contains, fold, filter_map, option_and_then, refl, ap, ap₂, sym, ◌∙◌, subst}
 use Rattle.std.proofs.Math.Path.{fun_ext}
 use Rattle.std.specs.Ordering.{nat_cmp}
 use Rattle.std.specs.Cmp.Lexicographic.{slice_cmp}
@@ -63,6 +63,26 @@ applied_more turns old new changes run applied fit copied last =
         ap (λ (a : Applied). unrefused (tables_after a.tables changes)) h
         ∙ ap unrefused (sym (fold-append tables_after_one (keyed_tables (map (λ t. t.table) old.copied)) (all_applied turns) changes)
         ∙ ap (λ (c : List CopiedTable). tables_after (keyed_tables (map (λ t. t.table) c)) (all_applied turns ++ changes)) (sym e))
+
+-- as the calls of a copy say it
+pub apply_runs : {T E : Type 0} (r : Result T E) (old new : CopyState) (changes : List Change) →
+    (old.applied.refused ≡ None → OnOk r (new.applied ≡ unrefused (tables_after old.applied.tables changes))) →
+    (old.applied.refused ≡ None → OnOk r (first_unfit old.applied.tables changes ≡ None)) → new.copied ≡ old.copied → new.last ≡ old.last →
+    (turns : List CopyTurn) → HasRun turns old → OnOk r (HasRun (turns ++ applies old changes ∷ []) new)
+apply_runs r old new changes applied fits copied last turns run =
+    go r (applied unrefused_yet) (fits unrefused_yet)
+  where
+    unrefused_yet : old.applied.refused ≡ None
+    unrefused_yet = ap (λ (a : Applied). a.refused) (run_applied turns old run)
+
+    go : {T E : Type 0} (r : Result T E) → OnOk r (new.applied ≡ unrefused (tables_after old.applied.tables changes)) →
+        OnOk r (first_unfit old.applied.tables changes ≡ None) → OnOk r (HasRun (turns ++ applies old changes ∷ []) new)
+    go (Ok x) a f = applied_more turns old new changes run a f copied last
+    go (Err e) a f = tt
+
+pub fresh_runs : {E : Type 0} (r : Result CopyState E) → IfOk r (λ s. HasApplied s []) → IfOk r (λ s. s.last ≡ None) → IfOk r (λ s. HasRun [] s)
+fresh_runs (Ok s) applied last = begins applied last
+fresh_runs (Err e) applied last = tt
 
 pub goes_on : GoesOn
 goes_on turns s t run copied last applied =

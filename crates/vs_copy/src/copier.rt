@@ -84,6 +84,7 @@ fn begin(alloc: Global, schema: &Schema, bound: &Bound) -> Result<Copier, CopyRe
 
 impl Copier {
     /// A copy from its beginning. The filter was bound to a schema equal to this one.
+    #[tactic(auto, using(crate::proofs::RunLemmas::fresh_runs))]
     pub fn fresh(alloc: Global, schema: &Schema, bound: &Bound) -> Result<Copier, CopyRefusal>
         requires { IsLawful schema.now }
         ensures copied { IfOk result (λ c. c.copied ≡ copied_of schema.now.tables bound.now.tables) }
@@ -121,6 +122,7 @@ impl Copier {
 
     /// Takes changes in order, and passes over those of tables that aren't copied. After a refusal each
     /// later call answers the same, and which rows there are isn't said.
+    #[tactic(auto, using(crate::proofs::RunLemmas::apply_runs))]
     pub fn apply(&mut self, changes: &[Change]) -> Result<(), TableRefusal>
         ensures later { IfSome self.old.applied.refused (λ why. Unless TableRefusal.Memory result (Err why) × (self.new ≡ self.old)) }
         ensures applied { self.old.applied.refused ≡ None → OnOk result (self.new.applied ≡ record { tables = tables_after self.old.applied.tables changes.now; refused = None }) }
