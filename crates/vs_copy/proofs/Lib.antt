@@ -11,3 +11,4 @@ mod ClientLemmas
 mod ToldChangeLemmas
 mod ToldChunkLemmas
 mod RunLemmas
+mod FitLemmas

@@ -32,7 +32,7 @@ module _ (R : Row → Row → Ordering) (K : Row → Row) where
   rows_after_change name rows c = cond (is_eq (slice_cmp nat_cmp c.table name)) (rows_come c.after (rows_gone c.before rows)) rows
 
   -- the row at a key without one, and with one
-  abbrev gone_at : Option Row → Row → Option Row → Option Row
+  abbrev pub gone_at : Option Row → Row → Option Row → Option Row
   gone_at None k row = row
   gone_at (Some b) k row = cond (is_eq (R (K b) k)) None row
 
@@ -236,7 +236,7 @@ module _ (R : Row → Row → Ordering) (o : IsTotalOrder R) (K : Row → Row) w
       go Greater e on = (put_each (λ y. R x y ≡ Less) k xs (o.antisymm x k ∙ ap ordering_reverse e) h.0, on)
 
   module _ (P : Row → Type 0) (p : (a : Row) → P (K a)) (r : Row → Option Row) where
-    gone : (image : Option Row) (rows keys : List Row) → AreAt R K P rows r keys →
+    pub gone : (image : Option Row) (rows keys : List Row) → AreAt R K P rows r keys →
         AreAt R K P (rows_gone R K image rows) (λ k. gone_at R K image k (r k)) keys
     gone None rows keys h = h
     gone (Some b) rows keys h = record {

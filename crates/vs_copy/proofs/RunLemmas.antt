@@ -18,7 +18,7 @@ use Rattle.vs_model.specs.Copies.{AreAscending, ChangesFit, IsOrdered, client_af
 use Rattle.vs_tables.specs.Changes.{Applied, first_unfit, keyed_tables, tables_after, tables_after_one}
 use Rattle.vs_tables.specs.Rows.{TableRows}
 use Rattle.vs_copy.specs.Copying.{CopyState, HasApplied, copied_bound, copied_of, keyless_in, told_within}
-use Rattle.vs_copy.specs.Laws.{ClientHasCopy, GoesOn, IsAsBound, TellsKeys}
+use Rattle.vs_copy.specs.Laws.{GoesOn, IsAsBound, TellsKeys}
 use Rattle.vs_copy.specs.Runs.{ClientHas, CopyTurn, HasRun, all_applied, all_told, applied_in, applies, client_row, told_in}
 use Rattle.vs_copy.specs.Runs.HasRun.{begins, applies_more, sends_more}
 use Rattle.vs_copy.specs.declared.chunk.ChunkRows.{ChunkRows}
@@ -29,13 +29,13 @@ use Rattle.vs_copy.proofs.ClientLemmas.{keys_are_told}
 use Rattle.vs_copy.proofs.ToldChangeLemmas.{changes_told}
 use Rattle.vs_copy.proofs.ToldChunkLemmas.{all_had, rows_told}
 
-all_more : (turns : List CopyTurn) (turn : CopyTurn) → all_applied turns ++ applied_in turn ≡ all_applied (turns ++ turn ∷ [])
+pub all_more : (turns : List CopyTurn) (turn : CopyTurn) → all_applied turns ++ applied_in turn ≡ all_applied (turns ++ turn ∷ [])
 all_more turns turn = flat_map_more applied_in [] turns turn
 
 told_more : (turns : List CopyTurn) (turn : CopyTurn) → all_told turns ++ told_in turn ≡ all_told (turns ++ turn ∷ [])
 told_more turns turn = flat_map_more told_in [] turns turn
 
-none_more : (turns : List CopyTurn) (chunk : ChunkRows) → all_applied turns ≡ all_applied (turns ++ CopyTurn.Sends chunk ∷ [])
+pub none_more : (turns : List CopyTurn) (chunk : ChunkRows) → all_applied turns ≡ all_applied (turns ++ CopyTurn.Sends chunk ∷ [])
 none_more turns chunk = sym (append-nil (all_applied turns)) ∙ all_more turns (CopyTurn.Sends chunk)
 
 -- a copy has applied what its turns applied
@@ -196,6 +196,3 @@ module _ (schema : List Table) (picked : List Picked) (is : keyless_in schema pi
     up_to_last = λ t k here. run_told t k here turns s run copied fit;
     at_end = λ none t k here. run_told t k here turns s run copied fit ∙ all_had bound tell ordered keys.keeps (all_applied turns) s.last none t k here;
   }
-
-pub client_has_copy : ClientHasCopy
-client_has_copy schema picked turns s is ascend copied run fit = run_has schema picked is ascend turns s run copied fit

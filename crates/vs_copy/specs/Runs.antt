@@ -1,11 +1,11 @@
 -- Whole runs of a copy, and what a client has that applies all that it is told.
-use Rattle.std.specs.Prelude.{◌≡◌, ℕ, List, [], ◌∷◌, ◌++◌, map, Option, Some, None, fold, if◌then◌else◌}
+use Rattle.std.specs.Prelude.{◌≡◌, ℕ, List, [], ◌∷◌, ◌++◌, map, Option, Some, None, IfSome, fold, if◌then◌else◌}
 use Rattle.std.specs.List.{Contains, filter_map, flat_map}
 use Rattle.vs_base.specs.declared.cell.Cell.{Cell}
 use Rattle.vs_base.specs.declared.change.Change.{Change}
 use Rattle.vs_base.specs.declared.change.LastKey.{LastKey}
 use Rattle.vs_base.specs.Picks.{Bound}
-use Rattle.vs_model.specs.Copy.{is_after, next_rows}
+use Rattle.vs_model.specs.Copy.{is_after, next_rows, row_at}
 use Rattle.vs_model.specs.Copies.{client_after, picked_row_at}
 use Rattle.vs_tables.specs.Changes.{first_unfit}
 use Rattle.vs_copy.specs.Chunks.{HasNext, state_after}
@@ -51,6 +51,11 @@ pub data HasRun : List CopyTurn → CopyState → Type 0 where
   sends_more : {turns : List CopyTurn} {old : CopyState} (chunk : ChunkRows) → HasRun turns old →
       HasNext (next_rows (copied_bound old.copied) (all_applied turns) old.last) chunk →
       HasRun (turns ++ CopyTurn.Sends chunk ∷ []) (state_after old (Some chunk))
+
+-- The before image of each change of a picked table is the row at its key, where there is one.
+abbrev pub ImagesAreRows : Bound → List Change → Type 0
+ImagesAreRows bound changes = (before behind : List Change) (c : Change) → changes ≡ before ++ c ∷ behind → Contains bound.tables c.table →
+    IfSome c.before (λ row. IfSome (row_at bound before c.table (bound.key c.table row)) (λ there. there ≡ row))
 
 -- the row at a key, of a client that applies in order to empty tables what it is told
 abbrev pub client_row : Bound → (List ℕ → List Cell → List Cell) → List Change → List ℕ → List Cell → Option (List Cell)

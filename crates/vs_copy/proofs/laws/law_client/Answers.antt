@@ -1,4 +1,5 @@
-use Rattle.vs_copy.proofs.RunLemmas.{client_has_copy, goes_on}
+use Rattle.vs_copy.proofs.FitLemmas.{client_has_copy}
+use Rattle.vs_copy.proofs.RunLemmas.{goes_on}
 use Rattle.vs_copy.proofs.laws.law_client.Goals as goal
 
 pub returns-clause-client : goal.returns-clause-client
