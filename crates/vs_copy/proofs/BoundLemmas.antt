@@ -96,7 +96,7 @@ module _ (schema : List Table) where
   kept_table p None e = absurd (cc)
   kept_table p (Some t) e = (t, refl)
 
-  abbrev entry : Picked → Table → CopiedTable
+  abbrev pub entry : Picked → Table → CopiedTable
   entry p t = record { picked = p; table = t; kinds = key_kinds t }
 
   copied_name : (picked : List Picked) → keyless_in schema picked ≡ None →
@@ -114,16 +114,16 @@ module _ (schema : List Table) where
       go on false e f = absurd (cc)
 
   -- a table is copied exactly where it is picked, under its entry in the schema
-  record IsEntry (picked : List Picked) (name : List ℕ) (p : Picked) : Type 0 where
-    table : Table
-    there : table_in schema name ≡ Some table
-    copied : copied_in (copied_of schema picked) name ≡ Some (entry p table)
+  pub record IsEntry (picked : List Picked) (name : List ℕ) (p : Picked) : Type 0 where
+    pub table : Table
+    pub there : table_in schema name ≡ Some table
+    pub copied : copied_in (copied_of schema picked) name ≡ Some (entry p table)
 
-  abbrev Entries : List Picked → List ℕ → Option Picked → Type 0
+  abbrev pub Entries : List Picked → List ℕ → Option Picked → Type 0
   Entries picked name None = copied_in (copied_of schema picked) name ≡ None
   Entries picked name (Some p) = IsEntry picked name p
 
-  entries : (picked : List Picked) (name : List ℕ) → keyless_in schema picked ≡ None → Entries picked name (picked_in picked name)
+  pub entries : (picked : List Picked) (name : List ℕ) → keyless_in schema picked ≡ None → Entries picked name (picked_in picked name)
   entries [] name is = refl
   entries (p ∷ picked) name is = go (entries picked name) (has_kept_key schema p) refl is
     where

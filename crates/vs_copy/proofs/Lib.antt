@@ -8,3 +8,7 @@ mod NextLemmas
 mod BoundLemmas
 mod FindLemmas
 mod ClientLemmas
+mod ToldChangeLemmas
+mod ToldChunkLemmas
+mod RunLemmas
+mod FitLemmas

@@ -1,12 +1,13 @@
 -- The rows of a table after changes: at each key that came the row that the changes leave there.
 use Rattle.std.proofs.Common.{◌≡◌, ℕ, Bool, true, false, not, cond, ◌&&◌, ◌||◌, List, [], ◌∷◌, ◌++◌, Option, Some, None, IfSome, filter, filter_map, fold, option_map, refl, ap, ap₂, sym, ◌∙◌, subst}
 use Rattle.std.proofs.Math.Path.{fun_ext}
-use Rattle.std.specs.List.{AllByRecursion, cons_option}
+use Rattle.std.specs.List.{AllByRecursion, cons_option, list_any}
 use Rattle.std.specs.Ordering.{is_eq, is_gt, is_lt, nat_cmp, ordering_reverse}
 use Rattle.std.specs.Cmp.{IsTotalOrder, Equal-is}
 use Rattle.std.specs.Cmp.Lexicographic.{slice_cmp}
 use Rattle.std.specs.declared.cmp.Ordering.{Ordering}
 use Rattle.std.specs.declared.cmp.Ordering.TheVariants.{Less, Equal, Greater}
+use Rattle.std.proofs.lemmas.Bool.{or_left, or_right}
 use Rattle.std.proofs.lemmas.Cmp.{alike_right, tied_itself}
 use Rattle.vs_base.specs.declared.cell.Cell.{Cell}
 use Rattle.vs_base.specs.declared.change.Change.{Change}
@@ -31,7 +32,7 @@ module _ (R : Row → Row → Ordering) (K : Row → Row) where
   rows_after_change name rows c = cond (is_eq (slice_cmp nat_cmp c.table name)) (rows_come c.after (rows_gone c.before rows)) rows
 
   -- the row at a key without one, and with one
-  abbrev gone_at : Option Row → Row → Option Row → Option Row
+  abbrev pub gone_at : Option Row → Row → Option Row → Option Row
   gone_at None k row = row
   gone_at (Some b) k row = cond (is_eq (R (K b) k)) None row
 
@@ -53,6 +54,8 @@ module _ (R : Row → Row → Ordering) (K : Row → Row) where
     pub own : AtOwnKeys r
     pub ascend : AreAscending R keys
     pub each : AllByRecursion P keys
+    -- a key with a row is among the keys
+    pub found : (k row : Row) → r k ≡ Some row → list_any (λ y. is_eq (R y k)) keys ≡ true
 
 module _ (R : Row → Row → Ordering) (o : IsTotalOrder R) (K : Row → Row) where
   own_gone : (image : Option Row) (r : Row → Option Row) → AtOwnKeys R K r → AtOwnKeys R K (λ k. gone_at R K image k (r k))
@@ -193,6 +196,32 @@ module _ (R : Row → Row → Ordering) (o : IsTotalOrder R) (K : Row → Row) w
       go Equal on = h
       go Greater on = (h.0, on)
 
+  -- one more key is found, and what was found before
+  put_found : (k x : Row) (keys : List Row) → is_eq (R x k) ≡ true → list_any (λ y. is_eq (R y k)) (key_put R x keys) ≡ true
+  put_found k x [] e = or_left (is_eq (R x k)) false e
+  put_found k x (z ∷ zs) e = go (R x z) refl (put_found k x zs e)
+    where
+      go : (q : Ordering) → R x z ≡ q → list_any (λ y. is_eq (R y k)) (key_put R x zs) ≡ true →
+          list_any (λ y. is_eq (R y k)) (key_put_at q x z zs (key_put R x zs)) ≡ true
+      go Less f on = or_left (is_eq (R x k)) _ e
+      go Equal f on = or_left (is_eq (R z k)) _ (sym (ap is_eq (o.congr x z k f)) ∙ e)
+      go Greater f on = or_right (is_eq (R z k)) _ on
+
+  put_finds : (k x : Row) (keys : List Row) → list_any (λ y. is_eq (R y k)) keys ≡ true → list_any (λ y. is_eq (R y k)) (key_put R x keys) ≡ true
+  put_finds k x [] any = absurd (cc)
+  put_finds k x (z ∷ zs) any = go (R x z) (λ e. put_finds k x zs e)
+    where
+      later : (b : Bool) → (list_any (λ y. is_eq (R y k)) zs ≡ true → list_any (λ y. is_eq (R y k)) (key_put R x zs) ≡ true) →
+          (b || list_any (λ y. is_eq (R y k)) zs) ≡ true → (b || list_any (λ y. is_eq (R y k)) (key_put R x zs)) ≡ true
+      later true on e = refl
+      later false on e = on e
+
+      go : (q : Ordering) → (list_any (λ y. is_eq (R y k)) zs ≡ true → list_any (λ y. is_eq (R y k)) (key_put R x zs) ≡ true) →
+          list_any (λ y. is_eq (R y k)) (key_put_at q x z zs (key_put R x zs)) ≡ true
+      go Less on = or_right (is_eq (R x k)) _ any
+      go Equal on = any
+      go Greater on = later (is_eq (R z k)) on any
+
   behind_first : (k x : Row) (ys : List Row) → R k x ≡ Less → AllByRecursion (λ y. R x y ≡ Less) ys → AllByRecursion (λ y. R k y ≡ Less) ys
   behind_first k x [] e h = tt
   behind_first k x (y ∷ ys) e h = (o.trans k x y e h.0, behind_first k x ys e h.1)
@@ -207,7 +236,7 @@ module _ (R : Row → Row → Ordering) (o : IsTotalOrder R) (K : Row → Row) w
       go Greater e on = (put_each (λ y. R x y ≡ Less) k xs (o.antisymm x k ∙ ap ordering_reverse e) h.0, on)
 
   module _ (P : Row → Type 0) (p : (a : Row) → P (K a)) (r : Row → Option Row) where
-    gone : (image : Option Row) (rows keys : List Row) → AreAt R K P rows r keys →
+    pub gone : (image : Option Row) (rows keys : List Row) → AreAt R K P rows r keys →
         AreAt R K P (rows_gone R K image rows) (λ k. gone_at R K image k (r k)) keys
     gone None rows keys h = h
     gone (Some b) rows keys h = record {
@@ -215,7 +244,12 @@ module _ (R : Row → Row → Ordering) (o : IsTotalOrder R) (K : Row → Row) w
       own = own_gone (Some b) r h.own;
       ascend = h.ascend;
       each = h.each;
+      found = λ k row is. go k row (is_eq (R (K b) k)) is;
     }
+      where
+        go : (k row : Row) (g : Bool) → cond g None (r k) ≡ Some row → list_any (λ y. is_eq (R y k)) keys ≡ true
+        go k row true is = absurd (cc)
+        go k row false is = h.found k row is
 
     come : (image : Option Row) (rows keys : List Row) → AreAt R K P rows r keys →
         AreAt R K P (rows_come R K image rows) (λ k. come_at R K image k (r k)) (put_if R K image keys)
@@ -225,7 +259,13 @@ module _ (R : Row → Row → Ordering) (o : IsTotalOrder R) (K : Row → Row) w
       own = own_come (Some a) r h.own;
       ascend = put_ascends (K a) keys h.ascend;
       each = put_each P (K a) keys (p a) h.each;
+      found = λ k row is. go k row (is_eq (R (K a) k)) refl is;
     }
+      where
+        go : (k row : Row) (g : Bool) → is_eq (R (K a) k) ≡ g → cond g (Some a) (r k) ≡ Some row →
+            list_any (λ y. is_eq (R y k)) (key_put R (K a) keys) ≡ true
+        go k row true e is = put_found k (K a) keys e
+        go k row false e is = put_finds k (K a) keys (h.found k row is)
 
 -- ---- the same by the definitions of a copy
 
@@ -308,7 +348,7 @@ module _ (bound : Bound) (name : List ℕ) (o : IsTotalOrder (bound.order name))
   all_changed (c ∷ changes) rows r keys h = one_changed c changes (all_changed changes) rows r keys h
 
   none_at : AreAt R K P [] (λ k. None) []
-  none_at = record { are = refl; own = λ k. tt; ascend = tt; each = tt }
+  none_at = record { are = refl; own = λ k. tt; ascend = tt; each = tt; found = λ k row is. absurd (cc) }
 
   -- the rows that changes leave, by their keys
   pub left_at : (changes : List Change) → AreAt R K P (rows_with [] changes) (row_at bound changes name) (keys_of bound changes name)

@@ -6,12 +6,15 @@ use Rattle.vs_base.specs.declared.change.Change.{Change}
 use Rattle.vs_base.specs.declared.change.LastKey.{LastKey}
 use Rattle.vs_base.specs.declared.table.Table.{Table}
 use Rattle.vs_base.specs.Picks.{picked_change}
+use Rattle.std.specs.List.{AllByRecursion}
+use Rattle.vs_schema.specs.Laws.{IsWhole}
 use Rattle.vs_filter.specs.Picks.{bound_in}
 use Rattle.vs_filter.specs.Keys.{told_key}
 use Rattle.vs_filter.specs.declared.bound.Picked.{Picked}
 use Rattle.vs_model.specs.Copy.{change_within, next_rows}
 use Rattle.vs_model.specs.Copies.{AreAscending, IsOrdered, KeepsKeys}
-use Rattle.vs_copy.specs.Copying.{copied_bound, copied_of, keyless_in}
+use Rattle.vs_copy.specs.Copying.{CopyState, HasApplied, copied_bound, copied_of, keyless_in}
+use Rattle.vs_copy.specs.Runs.{ClientHas, CopyTurn, HasRun, ImagesAreRows, all_applied}
 
 -- a copy tells what the filter that it was made of tells
 pub record IsAsBound (schema : List Table) (picked : List Picked) : Type 0 where
@@ -31,3 +34,15 @@ pub record TellsKeys (schema : List Table) (picked : List Picked) : Type 0 where
 
 abbrev pub KeysAreTold : Type 0
 KeysAreTold = (schema : List Table) (picked : List Picked) → keyless_in schema picked ≡ None → TellsKeys schema picked
+
+-- A client that applies in order to empty tables all that a copy tells has what it is to have after each turn.
+abbrev pub ClientHasCopy : Type 0
+ClientHasCopy = (schema : List Table) (picked : List Picked) (turns : List CopyTurn) (s : CopyState) → AllByRecursion IsWhole schema →
+    keyless_in schema picked ≡ None → AreAscending (slice_cmp nat_cmp) (map (λ (p : Picked). p.name) picked) →
+    s.copied ≡ copied_of schema picked → HasRun turns s → ImagesAreRows (bound_in picked schema) (all_applied turns) →
+    ClientHas (bound_in picked schema) (told_key picked schema) turns s.last
+
+-- A copy that is resumed behind the last row of an earlier one, and has applied what that one had, goes on as that one would have.
+abbrev pub GoesOn : Type 0
+GoesOn = (turns : List CopyTurn) (s t : CopyState) → HasRun turns s → t.copied ≡ s.copied → t.last ≡ s.last →
+    HasApplied t (all_applied turns) → HasRun turns t

@@ -4,3 +4,4 @@ pub mod CopiedTables
 pub mod Chunks
 pub mod Answers
 pub mod Laws
+pub mod Runs

@@ -1,9 +1,10 @@
-ghost use Rattle.std.specs.Prelude.{◌≡◌, ◌≤◌, IfOk, None, Some, map, min};
+ghost use Rattle.std.specs.Prelude.{◌≡◌, ◌≤◌, IfOk, IfSome, None, Some, map, min};
 ghost use Rattle.std.specs.List.{filter_map, last_or};
 ghost use Rattle.std.specs.Map.{values_of};
 ghost use Rattle.std.specs.Option.{option_copied, option_map};
 ghost use Rattle.vs_base.specs.Cells.{row_size};
 ghost use Rattle.vs_base.specs.Keys.{project};
+ghost use Rattle.vs_select.specs.Rows.{taken_row};
 ghost use Rattle.vs_model.specs.Copy.{chunk_of};
 ghost use Rattle.vs_copy.specs.Chunks.{has_room, told_row};
 
@@ -51,6 +52,26 @@ fn has_room(count: usize, size: usize, more: usize) -> bool
     count == 0 || (count < 100 && size + more <= MOST_BYTES)
 }
 
+/// A row as it is told.
+#[derive(Debug, Drop)]
+struct ToldRow {
+    cells: Image,
+    /// The bytes of these cells, or one more than a chunk may have where they are no fewer.
+    size: usize,
+}
+
+/// The row as it is picked, and its bytes as they count for a chunk; none where it isn't picked.
+fn told_row(alloc: Global, table: &CopiedTable, row: &Image) -> Result<Option<ToldRow>, OutOfMemory>
+    ensures cells { IfOk result (λ told. option_map (λ t. t.cells) told ≡ taken_row table.now.picked.select row.now) }
+    ensures size { IfOk result (λ told. IfSome told (λ t. t.size ≡ min (row_size t.cells) 4194305)) }
+{
+    let Some(cells) = table.picked.select.take_row(alloc, row)? else {
+        return Ok(None);
+    };
+    let size = counted_size(cells.cells());
+    Ok(Some(ToldRow { cells, size }))
+}
+
 /// The key of a row.
 fn key_of(alloc: Global, table: &CopiedTable, row: &Image) -> Result<Option<Image>, OutOfMemory>
     ensures { IfOk result (λ key. key ≡ Some (project table.now.table.key row.now)) }
@@ -91,13 +112,12 @@ pub(crate) fn take_rows(
     let mut last = None;
     let mut size = 0usize;
     for (_, row) in rows {
-        if let Some(told) = table.picked.select.take_row(alloc, row)? {
-            let more = counted_size(told.cells());
-            if !has_room(taken.as_slice().len(), size, more) {
+        if let Some(told) = told_row(alloc, table, row)? {
+            if !has_room(taken.as_slice().len(), size, told.size) {
                 return finish(alloc, table, taken, last);
             }
-            size += more;
-            taken.push(told)?;
+            size += told.size;
+            taken.push(told.cells)?;
             last = Some(row);
         }
     }

@@ -1,4 +1,4 @@
-ghost use Rattle.std.specs.Prelude.{[], ◌++◌, ◌≡◌, Err, IfErr, IfOk, IfSome, List, None, OnErr, OnOk, Some, map, true};
+ghost use Rattle.std.specs.Prelude.{[], ◌++◌, ◌∷◌, ◌≡◌, Err, IfErr, IfOk, IfSome, List, None, OnErr, OnOk, Some, map, true};
 ghost use Rattle.std.specs.Map.{values_of};
 ghost use Rattle.std.specs.Option.{option_map};
 ghost use Rattle.vs_base.specs.Answers.{Unless};
@@ -8,6 +8,7 @@ ghost use Rattle.vs_base.specs.declared.change.Change.{Change};
 ghost use Rattle.vs_schema.specs.Laws.{IsLawful};
 ghost use Rattle.vs_model.specs.Copy.{next_rows};
 ghost use Rattle.vs_copy.specs.Answers.{KeylessIs, NotResumedIs};
+ghost use Rattle.vs_copy.specs.Runs.{CopyTurn, HasRun, applies};
 ghost use Rattle.vs_copy.specs.Chunks.{ChunkIs, TellsNext, listed, next_told, rows_left, state_after, told_left};
 ghost use Rattle.vs_copy.specs.Copying.{
   HasApplied,
@@ -83,11 +84,13 @@ fn begin(alloc: Global, schema: &Schema, bound: &Bound) -> Result<Copier, CopyRe
 
 impl Copier {
     /// A copy from its beginning. The filter was bound to a schema equal to this one.
+    #[tactic(auto, using(crate::proofs::RunLemmas::fresh_runs))]
     pub fn fresh(alloc: Global, schema: &Schema, bound: &Bound) -> Result<Copier, CopyRefusal>
         requires { IsLawful schema.now }
         ensures copied { IfOk result (λ c. c.copied ≡ copied_of schema.now.tables bound.now.tables) }
         ensures tables { IfOk result (λ c. HasApplied c []) }
         ensures last { IfOk result (λ c. c.last ≡ None) }
+        ensures run { IfOk result (λ c. HasRun [] c) }
         ensures keyed { OnOk result (keyless_in schema.now.tables bound.now.tables ≡ None) }
         ensures refused { IfErr result (KeylessIs schema.now.tables bound.now.tables) }
     {
@@ -119,6 +122,7 @@ impl Copier {
 
     /// Takes changes in order, and passes over those of tables that aren't copied. After a refusal each
     /// later call answers the same, and which rows there are isn't said.
+    #[tactic(auto, using(crate::proofs::RunLemmas::apply_runs))]
     pub fn apply(&mut self, changes: &[Change]) -> Result<(), TableRefusal>
         ensures later { IfSome self.old.applied.refused (λ why. Unless TableRefusal.Memory result (Err why) × (self.new ≡ self.old)) }
         ensures applied { self.old.applied.refused ≡ None → OnOk result (self.new.applied ≡ record { tables = tables_after self.old.applied.tables changes.now; refused = None }) }
@@ -126,6 +130,7 @@ impl Copier {
         ensures unfit { self.old.applied.refused ≡ None → IfErr result (RefusalTells (first_unfit self.old.applied.tables changes.now)) }
         ensures refused { self.old.applied.refused ≡ None → IfErr result (λ why. self.new.applied.refused ≡ Some why) }
         ensures all { (before : List Change) → HasApplied self.old before → OnOk result (HasApplied self.new (before ++ changes.now)) }
+        ensures run { (turns : List CopyTurn) → HasRun turns self.old → OnOk result (HasRun (turns ++ applies self.old changes.now ∷ []) self.new) }
         ensures copied { self.new.copied ≡ self.old.copied }
         ensures last { self.new.last ≡ self.old.last }
     {
@@ -267,6 +272,7 @@ impl Copier {
         ensures rows { (changes : List Change) → HasApplied self.old changes →
             IfOk result (TellsNext (next_rows (copied_bound self.old.copied) changes self.old.last)) }
         ensures after { IfOk result (λ chunk. self.new ≡ state_after self.old chunk) }
+        ensures run { (turns : List CopyTurn) → HasRun turns self.old → IfOk result (λ chunk. IfSome chunk (λ c. HasRun (turns ++ CopyTurn.Sends c ∷ []) self.new)) }
         ensures kept { OnErr result (self.new ≡ self.old) }
     {
         let Some(chunk) = self.find_chunk()? else {

@@ -13,5 +13,5 @@ mod tests;
 pub use chunk::ChunkRows;
 pub use copied::CopiedTable;
 pub use copier::Copier;
-pub use laws::law_bound;
+pub use laws::{law_bound, law_client};
 pub use refusal::CopyRefusal;

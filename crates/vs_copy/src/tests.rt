@@ -1,4 +1,4 @@
-use crate::{ChunkRows, Copier, CopyRefusal, law_bound};
+use crate::{ChunkRows, Copier, CopyRefusal, law_bound, law_client};
 use std::alloc::{AllocError, Global};
 use std::test::Fail;
 use vs_base::{Cell, Change, Image, LastKey, List, OutOfMemory, Text};
@@ -315,5 +315,6 @@ fn a_key_has_at_most_3072_bytes(rt: HostRuntime) -> Result<(), Fail> {
     assert!(rt; !comes(rt.alloc(), key.as_slice())?);
     assert!(rt; comes(rt.alloc(), &key.as_slice()[1..])?);
     law_bound();
+    law_client();
     Ok(())
 }
