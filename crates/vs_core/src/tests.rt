@@ -64,41 +64,47 @@ fn take(rt: &impl Abort, core: &mut Core, lane: usize, piece: Piece) {
 }
 
 /// What a turn told, and the lane, the number of a journal or the count that it names.
-fn told(turn: &Turn) -> (Told, i64) {
+fn told(turn: &Turn) -> (Told, u64) {
     match turn {
-        Turn::Frame { lane, .. } => (Told::Frame, *lane as i64),
-        Turn::Switched { lane, .. } => (Told::Switched, *lane as i64),
-        Turn::Halted { id, .. } => (Told::Halted, *id),
+        Turn::Frame { lane, .. } => (Told::Frame, *lane as u64),
+        Turn::Switched { lane, .. } => (Told::Switched, *lane as u64),
+        Turn::Halted { id, .. } => (Told::Halted, id.unsigned_abs()),
         Turn::AllCopied => (Told::AllCopied, 0),
-        Turn::Arrived { lane, .. } => (Told::Arrived, *lane as i64),
-        Turn::Ended { lane, .. } => (Told::Ended, *lane as i64),
-        Turn::Idled { lane, .. } => (Told::Idled, *lane as i64),
-        Turn::Restart { lane, .. } => (Told::Restart, *lane as i64),
+        Turn::Arrived { lane, .. } => (Told::Arrived, *lane as u64),
+        Turn::Ended { lane, .. } => (Told::Ended, *lane as u64),
+        Turn::Idled { lane, .. } => (Told::Idled, *lane as u64),
+        Turn::Restart { lane, .. } => (Told::Restart, *lane as u64),
         Turn::Nothing => (Told::Nothing, 0),
         Turn::Done => (Told::Done, 0),
         Turn::Stuck { ids } => match ids.as_slice() {
-            [id] => (Told::Stuck, *id),
+            [id] => (Told::Stuck, id.unsigned_abs()),
             _ => (Told::Stuck, 0),
         },
     }
 }
 
 /// Why a turn wasn't made.
-fn refused(why: &CoreRefusal) -> (Told, i64) {
+fn refused(why: &CoreRefusal) -> (Told, u64) {
     match why {
-        CoreRefusal::Gathering(GatherRefusal::Differs { id, .. }) => (Told::Differs, *id),
-        CoreRefusal::Gathering(GatherRefusal::Clash { id, .. }) => (Told::Clashes, *id),
+        CoreRefusal::Gathering(GatherRefusal::Differs { id, .. }) => (
+            Told::Differs,
+            id.unsigned_abs(),
+        ),
+        CoreRefusal::Gathering(GatherRefusal::Clash { id, .. }) => (
+            Told::Clashes,
+            id.unsigned_abs(),
+        ),
         CoreRefusal::Gathering(GatherRefusal::Memory) => (Told::Memory, 0),
-        CoreRefusal::Stranger { id, .. } => (Told::Stranger, *id),
+        CoreRefusal::Stranger { id, .. } => (Told::Stranger, id.unsigned_abs()),
         CoreRefusal::PositionTooLarge { .. } => (Told::PositionTooLarge, 0),
-        CoreRefusal::TooManyShards { n } => (Told::TooManyShards, *n as i64),
+        CoreRefusal::TooManyShards { n } => (Told::TooManyShards, *n as u64),
         CoreRefusal::Lane { .. } => (Told::Lane, 0),
         CoreRefusal::Spent { .. } => (Told::Spent, 0),
         CoreRefusal::Memory => (Told::Memory, 0),
     }
 }
 
-fn turn(alloc: Global, core: &mut Core, out: &mut Vec<u8>) -> (Told, i64) {
+fn turn(alloc: Global, core: &mut Core, out: &mut Vec<u8>) -> (Told, u64) {
     out.clear();
     match core.turn(alloc, out) {
         Ok(turn) => told(&turn),

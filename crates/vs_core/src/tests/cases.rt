@@ -56,7 +56,7 @@ pub enum Step {
     /// A piece of the lane is taken.
     Takes(usize, Content),
     /// A turn is made, and answers so: with a lane, a journal's number, or a count.
-    Turns(Told, i64),
+    Turns(Told, u64),
 }
 
 /// A stream, from its first vector.

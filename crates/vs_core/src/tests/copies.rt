@@ -6,6 +6,7 @@ use crate::tests::cases::{Case, Told};
 use crate::tests::journals::{A1, NONE};
 
 const U1: &[u8] = b"MySQL56/00000000-0000-0000-0000-000000000001:1";
+
 const U2: &[u8] = b"MySQL56/00000000-0000-0000-0000-000000000001:1-2";
 
 /// The frame of the statement `drop table t`, which is the first of the log of c/0.
@@ -170,11 +171,7 @@ pub const CASES: &[Case] = &[
     Case {
         name: "the frame of the end of a copy",
         starts: &[(b"0", Fresh)],
-        steps: &[
-            Begins(b"0"),
-            Takes(0, CopyDone(U2)),
-            Turns(Told::Frame, 0),
-        ],
+        steps: &[Begins(b"0"), Takes(0, CopyDone(U2)), Turns(Told::Frame, 0)],
         sent: COPIED,
         ends: &[(b"0", U2)],
         ..ONE

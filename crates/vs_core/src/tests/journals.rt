@@ -5,13 +5,21 @@ use crate::tests::cases::Step::{Begins, Takes, Turns};
 use crate::tests::cases::{Case, Told};
 
 pub const NONE: &[u8] = b"MySQL56/";
+
 pub const A1: &[u8] = b"MySQL56/00000000-0000-0000-0000-00000000000a:1";
+
 const B1: &[u8] = b"MySQL56/00000000-0000-0000-0000-00000000000b:1";
+
 const B2: &[u8] = b"MySQL56/00000000-0000-0000-0000-00000000000b:1-2";
+
 const D1: &[u8] = b"MySQL56/00000000-0000-0000-0000-00000000000d:1";
+
 const D2: &[u8] = b"MySQL56/00000000-0000-0000-0000-00000000000d:1-2";
+
 const E1: &[u8] = b"MySQL56/00000000-0000-0000-0000-00000000000e:1";
+
 const E3: &[u8] = b"MySQL56/00000000-0000-0000-0000-00000000000e:1-3";
+
 const F2: &[u8] = b"MySQL56/00000000-0000-0000-0000-00000000000f:1-2";
 
 /// c/-80 is split.

@@ -27,9 +27,21 @@ fn room(rt: &impl Abort, alloc: Global) -> Room {
     }
 }
 
+/// The last byte of the UUID that a letter stands for.
+fn digit(letter: u8) -> u8 {
+    match letter {
+        b'a' => 10,
+        b'b' => 11,
+        b'd' => 13,
+        b'e' => 14,
+        b'f' => 15,
+        _ => 1,
+    }
+}
+
 fn gtid(rt: &impl Abort, letter: u8, number: u64) -> Gtid {
-    let digit = if letter < b'a' { letter - b'0' } else { letter - b'a' + 10 };
-    let uuid = [0, 0, 0, 0, 0, 0, 0, 0, 0, 0, 0, 0, 0, 0, 0, digit];
+    let mut uuid = [0; 16];
+    uuid[15] = digit(letter);
     Gtid::new(uuid, number).expect(rt, "the number is out of range")
 }
 
@@ -126,7 +138,14 @@ pub fn piece(rt: &impl Abort, alloc: Global, content: &Content) -> Piece {
         Content::FeedFault => end(rt, alloc, EndCause::FeedFault),
         Content::BadLog(offset) => {
             let why = Why::BadLength { length: 18 };
-            end(rt, alloc, EndCause::BadLog { offset: *offset, why })
+            end(
+                rt,
+                alloc,
+                EndCause::BadLog {
+                    offset: *offset,
+                    why,
+                },
+            )
         }
     }
 }
