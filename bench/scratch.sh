@@ -21,7 +21,7 @@ make_scratch() {
         done
         grep "^$crate:" "$top/crates.txt" >> "$room/crates.txt"
         # The tests are not needed, and take long to prove.
-        rm -f "$room/crates/$crate/src/"*tests.rt
+        rm -rf "$room/crates/$crate/src/"*tests.rt "$room/crates/$crate/src/"*tests
         sed -i '/^#\[cfg(test)\]$/d; /^mod [a-z_]*tests;$/d' "$room/crates/$crate/src/lib.rt"
     done
     echo "$name: $libraries" >> "$room/crates.txt"

@@ -1,11 +1,12 @@
 #!/usr/bin/env bash
-# Times a million turns of a core over 1, 8 and 64 shards, in nanoseconds per turn: each takes a
-# transaction that was rendered before, and sends its frame.
+# Times a million turns of a core over 1, 8 and 64 shards, in nanoseconds per turn, without a skew and
+# with one, and tells the memory at the peak: each turn takes a transaction that was rendered before,
+# and sends its frame. Four pieces of each lane are held at most.
 # Usage: bench/turns.sh
 set -eu
 . "$(dirname "$0")/scratch.sh"
 
-run_scratch turns "vs_base vs_gtid vs_pool vs_filter vs_vector vs_render vs_request vs_core anyhow" vs_base vs_pace vs_pool vs_wire vs_frame vs_proto vs_gtid vs_outside vs_request vs_model vs_vector vs_gather vs_schema vs_select vs_filter vs_journal vs_render vs_core <<'PROGRAM'
+make_scratch turns "vs_base vs_gtid vs_pool vs_filter vs_vector vs_render vs_request vs_core anyhow" vs_base vs_pace vs_pool vs_wire vs_frame vs_proto vs_gtid vs_outside vs_request vs_model vs_vector vs_gather vs_schema vs_select vs_filter vs_journal vs_render vs_core <<'PROGRAM'
 //! Times turns of a core.
 #![tactic(auto)]
 
@@ -23,8 +24,8 @@ use vs_vector::{Place, ShardAt, Vector};
 
 const TURNS: u64 = 1_000_000;
 
-/// The turns for which bodies are rendered at once.
-const ROUND: u64 = 1_000;
+/// The pieces of a lane that are held at once.
+const HELD: u64 = 4;
 
 fn shard(alloc: Global, number: u8) -> Result<ShardName> {
     let keyspace = Text::from_bytes(alloc, b"commerce")?;
@@ -52,7 +53,7 @@ fn body(alloc: Global, name: &ShardName, gtid: Gtid) -> Result<Body> {
     }
 }
 
-fn core_over(alloc: Global, shards: u8) -> Result<Core> {
+fn core_over(alloc: Global, shards: u8, max_skew: u64) -> Result<Core> {
     let mut vector = Vector::new(alloc);
     for number in 0..shards {
         let at = ShardAt {
@@ -62,7 +63,7 @@ fn core_over(alloc: Global, shards: u8) -> Result<Core> {
         vector.push(shard(alloc, number)?, at)?;
     }
     let flags = Flags {
-        max_skew: 0,
+        max_skew,
         heartbeat_interval: 0,
         stop_on_reshard: false,
         include_journals: false,
@@ -78,8 +79,8 @@ fn core_over(alloc: Global, shards: u8) -> Result<Core> {
 }
 
 /// Takes the pieces of a round, which begins at this turn.
-fn take_round(alloc: Global, core: &mut Core, shards: u8, first: u64) -> Result<()> {
-    for turn in first..first.saturating_add(ROUND) {
+fn take_round(alloc: Global, core: &mut Core, shards: u8, first: u64, turns: u64) -> Result<()> {
+    for turn in first..first.saturating_add(turns) {
         let number = (turn % u64::from(shards.max(1))) as u8;
         let mut uuid = [7; 16];
         uuid[15] = number;
@@ -95,14 +96,15 @@ fn take_round(alloc: Global, core: &mut Core, shards: u8, first: u64) -> Result<
 }
 
 /// The nanoseconds of a turn over so many shards.
-fn time_turns(rt: &impl std::rt::Clock, alloc: Global, shards: u8) -> Result<u64> {
-    let mut core = core_over(alloc, shards)?;
+fn time_turns(rt: &impl std::rt::Clock, alloc: Global, shards: u8, max_skew: u64) -> Result<u64> {
+    let mut core = core_over(alloc, shards, max_skew)?;
     let mut out = Vec::new(alloc);
     let mut spent: u64 = 0;
-    for round in 0..TURNS / ROUND {
-        take_round(alloc, &mut core, shards, round * ROUND)?;
+    let round = HELD * u64::from(shards.max(1));
+    for number in 0..TURNS / round {
+        take_round(alloc, &mut core, shards, number.saturating_mul(round), round)?;
         let start = Instant::now(rt)?;
-        for _ in 0..ROUND {
+        for _ in 0..round {
             out.clear();
             if core.turn(alloc, &mut out).is_err() {
                 return Err(anyhow::anyhow!("a turn is refused"));
@@ -117,9 +119,13 @@ fn time_turns(rt: &impl std::rt::Clock, alloc: Global, shards: u8) -> Result<u64
 fn main(rt: HostRuntime) -> Result<()> {
     let alloc = rt.alloc();
     for shards in [1, 8, 64] {
-        let each = time_turns(&rt, alloc, shards)?;
-        println!(rt; "{shards} shards: {each} ns a turn")?;
+        for skew in [0, 5] {
+            let each = time_turns(&rt, alloc, shards, skew)?;
+            println!(rt; "{shards} shards, skew {skew}: {each} ns a turn")?;
+        }
     }
     Ok(())
 }
 PROGRAM
+
+/usr/bin/time -f '%U s of processor time, %M KB at the peak' out/turns

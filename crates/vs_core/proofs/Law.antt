@@ -26,14 +26,14 @@ use Rattle.vs_model.specs.Steps.{Step, Steps}
 use Rattle.vs_model.specs.Core.{Piece as Given, PlaceAfter, AreGiven, HasBase, HasAllCopied, IsNoStranger, frame_of, ends_copies, some_copies}
 use Rattle.vs_model.specs.Core.Piece.{Transaction, CopiedRows, CopyEnd}
 use Rattle.vs_model.proofs.Each.{all_append, all_filtered, all_of_two, all_weaker}
-use Rattle.vs_model.proofs.Lists.{cons_is_not_nil, some_is_not_none, same_some}
+use Rattle.vs_model.proofs.Lists.{cons_is_not_nil, left_nil, not_nil, some_is_not_none, same_some}
 use Rattle.vs_model.proofs.Places.{same_position, streams_or_copies, place_of-moved, place_of-moved_other, place_of-switched}
 use Rattle.vs_model.proofs.Runs.{AllZip-append, last_vector-append, steps_are_legal}
 use Rattle.vs_model.proofs.Resumed.{steps_both}
 use Rattle.vs_model.proofs.OneStep.{step_all_copied, step_beat, step_halt, step_switch}
 use Rattle.vs_model.proofs.Given.{given_on, base_on, at_journal}
 use Rattle.vs_model.proofs.Gate.{after_piece, piece_step}
-use Rattle.vs_model.proofs.CoreRuns.{not_nil, left_nil, none_copies, follows_one, last_frame, due_of_piece, not_all_copied}
+use Rattle.vs_model.proofs.Ends.{none_copies, follows_one, last_frame, due_of_piece, not_all_copied}
 use Rattle.vs_request.specs.declared.request.Flags.{Flags}
 use Rattle.vs_render.specs.Bodies.{Rendered, HeldBody}
 use Rattle.vs_render.specs.declared.piece.Piece.{Piece}

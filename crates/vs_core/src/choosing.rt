@@ -86,28 +86,10 @@ fn piece_time(piece: &Piece) -> u32
     ensures { result ≡ piece_time piece.now }
 {
     match piece {
-        Piece::Tx {
-            gtid: _,
-            time,
-            body: _,
-        } => *time,
-        Piece::Foreign {
-            gtid: _,
-            time,
-            journal: _,
-            body: _,
-        } => *time,
-        Piece::Chunk {
-            position: _,
-            last_key: _,
-            time,
-            body: _,
-        } => *time,
-        Piece::CopyDone {
-            position: _,
-            time,
-            room: _,
-        } => *time,
+        Piece::Tx { time, .. }
+        | Piece::Foreign { time, .. }
+        | Piece::Chunk { time, .. }
+        | Piece::CopyDone { time, .. } => *time,
         Piece::Idle { room: _ } => 0,
         Piece::End { cause: _, room: _ } => 0,
     }

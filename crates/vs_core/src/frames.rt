@@ -1,11 +1,13 @@
 //! Frames that have no body.
-ghost use Rattle.std.specs.Prelude.{◌≡◌, ◌++◌, ◌∷◌, IfOk, OnErr, OnOk, Some, [], if◌then◌else◌, map, pos};
+ghost use Rattle.std.specs.Prelude.{◌≡◌, ◌++◌, ◌∷◌, Bool, IfOk, OnErr, OnOk, Some, [], if◌then◌else◌, map, pos};
 ghost use Rattle.vs_gtid.specs.Vectors.{successors_of};
 ghost use Rattle.vs_proto.specs.Frames.{message_bytes};
 ghost use Rattle.vs_proto.specs.declared.event_kind.TheConstants.{COPY_COMPLETED, JOURNAL, VGTID};
 ghost use Rattle.vs_render.specs.Events.{head_of, no_head, plain_event, vector_event};
 ghost use Rattle.vs_render.specs.Journals.{journal_of};
 ghost use Rattle.vs_core.specs.Framing.{journal_events, keyspace_shards};
+ghost use Rattle.vs_core.specs.Machine.Sent.{SentBeat};
+ghost use Rattle.vs_core.specs.Spelling.{sent_bytes};
 ghost use Rattle.vs_vector.specs.Messages.{shard_gtids_of};
 
 use crate::OutOfMemory;
@@ -74,6 +76,19 @@ pub(crate) fn put_all_copied(alloc: Global, out: &mut Vec<u8>) -> Result<(), Out
 {
     let mut events = Vec::new(alloc);
     events.push(plain_event(alloc, event_kind::COPY_COMPLETED))?;
+    put_events(alloc, out, events)
+}
+
+/// Appends the frame of a heartbeat at this second. At want of memory nothing is appended.
+pub fn put_beat(alloc: Global, out: &mut Vec<u8>, now: u64) -> Result<(), OutOfMemory>
+    ensures ok { OnOk result ((journals : Bool) → out.new.items ≡ out.old.items ++ sent_bytes journals (SentBeat now)) }
+    ensures err { OnErr result (out.new.items ≡ out.old.items) }
+{
+    let mut events = Vec::new(alloc);
+    events.push(VEvent {
+        current_time: now.cast_signed(),
+        ..plain_event(alloc, event_kind::HEARTBEAT)
+    })?;
     put_events(alloc, out, events)
 }
 

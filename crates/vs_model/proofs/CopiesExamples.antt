@@ -1,4 +1,4 @@
--- A client of the run of the gate: it has the rows that the copied log leaves.
+-- A client of the stream of the two shards: it has the rows that the copied log leaves.
 use Rattle.std.proofs.Common.{◌≡◌, ◌<◌, Bool, true, false, cond, List, [], ◌∷◌, ◌++◌, append-nil, append_assoc, Some, None, IfSome, Contains, nat_lt, refl, ap, sym, ◌∙◌, subst, arith}
 use Rattle.std.proofs.lemmas.Cmp.{on_total, nat_cmp_total}
 use Rattle.vs_base.specs.Names.{same_name}
@@ -8,11 +8,10 @@ use Rattle.vs_gtid.specs.Vectors.Place.{Streaming}
 use Rattle.vs_model.specs.Frames.{frames_of}
 use Rattle.vs_model.specs.Copy.{Bound, changes_in, row_at}
 use Rattle.vs_model.specs.Copies.{IsOrdered, KeepsKeys, ChangesFit, client_row}
-use Rattle.vs_model.proofs.Lists.{same_head, same_tail}
+use Rattle.vs_model.proofs.Lists.{not_nil, same_head, same_tail}
 use Rattle.vs_model.proofs.Examples.{up_to}
 use Rattle.vs_model.proofs.CopyExamples.{below_nine, id_of, inserts, renames, row}
-use Rattle.vs_model.proofs.CoreRuns.{not_nil}
-use Rattle.vs_model.proofs.CoreExamples.{a, b, cluster, rules, first, frames, legal, distinct_logs}
+use Rattle.vs_model.proofs.StreamExamples.{a, b, cluster, rules, first, frames, legal, distinct_logs}
 use Rattle.vs_model.proofs.CopiesLaw.{copies_rows}
 
 -- how a change fits those before it

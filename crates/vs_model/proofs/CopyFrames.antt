@@ -29,7 +29,7 @@ use Rattle.vs_model.specs.Copy.{Bound, changes_of, changes_in, is_after, is_afte
 use Rattle.vs_model.specs.Legal.{Sends, IsTxOf}
 use Rattle.vs_model.specs.Reached.{start_of}
 use Rattle.vs_model.specs.Copies.{AreAscending, IsOrdered, KeepsKeys, ChangesFit, told_in, client_after, picked_row_at, copied_row}
-use Rattle.vs_model.proofs.Lists.{cons_is_not_nil, same_some}
+use Rattle.vs_model.proofs.Lists.{cons_is_not_nil, not_nil, same_some}
 use Rattle.vs_model.proofs.Entries.{due_twice, grown_twice}
 use Rattle.vs_model.proofs.Each.{all_append, all_of_two, all_weaker}
 use Rattle.vs_model.proofs.Keys.{less_turned, greater_turned, greater_twice}
@@ -37,7 +37,6 @@ use Rattle.vs_model.proofs.CopyRows.{rows_left, left_found, left_after, after-al
 use Rattle.vs_model.proofs.Client.{tables_total, around, told_rows, other_rows, chunk_told, last_row}
 use Rattle.vs_model.proofs.ClientChanges.{cut_image, cut, changes_told}
 use Rattle.vs_model.proofs.CopyFronts.{front-sent}
-use Rattle.vs_model.proofs.CoreRuns.{not_nil}
 
 pub flat_map-append : {X A : Type 0} (f : X → List A) (xs ys : List X) → flat_map f (xs ++ ys) ≡ flat_map f xs ++ flat_map f ys
 flat_map-append f [] ys = refl

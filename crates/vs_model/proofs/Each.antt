@@ -1,5 +1,5 @@
 -- What holds of each item of a list.
-use Rattle.std.proofs.Common.{Bool, true, false, not, ◌≡◌, ◌||◌, List, [], ◌∷◌, ◌++◌, filter, refl, ap, sym, ◌∙◌, subst, ⊎_elim}
+use Rattle.std.proofs.Common.{Bool, true, false, ◌≡◌, ◌||◌, List, [], ◌∷◌, ◌++◌, filter, refl, ap, sym, ◌∙◌, subst, ⊎_elim}
 use Rattle.std.specs.List.{list_any, AllByRecursion}
 use Rattle.std.proofs.lemmas.Bool.{cases_Bool, cond-true, cond-false, or_left, or_right, or_from}
 
@@ -49,33 +49,10 @@ module _ {X : Type 0} (P : X → Type 0) where
   all_append [] ys h k = k
   all_append (x ∷ xs) ys h k = (h.0, all_append xs ys h.1 k)
 
-  pub all_first : (xs ys : List X) → AllByRecursion P (xs ++ ys) → AllByRecursion P xs
-  all_first [] ys h = tt
-  all_first (x ∷ xs) ys h = (h.0, all_first xs ys h.1)
-
   pub all_behind : (xs ys : List X) → AllByRecursion P (xs ++ ys) → AllByRecursion P ys
   all_behind [] ys h = h
   all_behind (x ∷ xs) ys h = all_behind xs ys h.1
 
-  pub all_inserted : (xs ys : List X) (x : X) → P x → AllByRecursion P (xs ++ ys) → AllByRecursion P (xs ++ x ∷ ys)
-  all_inserted xs ys x p h = all_append xs (x ∷ ys) (all_first xs ys h) (p, all_behind xs ys h)
-
   pub all_filtered : (t : X → Bool) (xs : List X) → AllByRecursion P xs → AllByRecursion P (filter t xs)
   all_filtered t [] h = tt
   all_filtered t (x ∷ xs) h = kept_either (AllByRecursion P) t x xs (λ e. (h.0, all_filtered t xs h.1)) (λ e. all_filtered t xs h.1)
-
-  both_kept : (b : Bool) (x : X) (xs : List X) (t : X → Bool) → t x ≡ b → AllByRecursion P (filter (λ y. not (t y)) (x ∷ xs)) →
-      AllByRecursion P (filter t (x ∷ xs)) → P x × AllByRecursion P (filter (λ y. not (t y)) xs) × AllByRecursion P (filter t xs)
-  both_kept true x xs t e h k =
-      let in_it = subst (AllByRecursion P) (cond-true (t x) (x ∷ filter t xs) (filter t xs) e) k in
-      (in_it.0, subst (AllByRecursion P) (cond-false (not (t x)) (x ∷ filter (λ y. not (t y)) xs) (filter (λ y. not (t y)) xs) (ap not e)) h, in_it.1)
-  both_kept false x xs t e h k =
-      let out_of_it = subst (AllByRecursion P) (cond-true (not (t x)) (x ∷ filter (λ y. not (t y)) xs) (filter (λ y. not (t y)) xs) (ap not e)) h in
-      (out_of_it.0, out_of_it.1, subst (AllByRecursion P) (cond-false (t x) (x ∷ filter t xs) (filter t xs) e) k)
-
-  -- what holds of all that pass a test, and of all that fail it, holds of all
-  pub all_of_both : (t : X → Bool) (xs : List X) → AllByRecursion P (filter (λ y. not (t y)) xs) → AllByRecursion P (filter t xs) → AllByRecursion P xs
-  all_of_both t [] h k = tt
-  all_of_both t (x ∷ xs) h k =
-      let parts = both_kept (t x) x xs t refl h k in
-      (parts.0, all_of_both t xs parts.1 parts.2)

@@ -1,13 +1,11 @@
--- What each step of the gate keeps, where its lanes gave what their logs let them.
-use Rattle.std.proofs.Common.{◌≡◌, ◌||◌, true, false, not, List, [], ◌∷◌, map, Option, Some, IfSome, filter, refl, ap, sym, ◌∙◌, subst}
-use Rattle.std.specs.List.{AllByRecursion}
+-- A piece that a lane may give is sent by a lawful step.
+use Rattle.std.proofs.Common.{◌≡◌, ◌||◌, true, false, List, [], ◌∷◌, Option, Some, IfSome, refl, ap, sym, ◌∙◌, subst}
 use Rattle.vs_base.specs.declared.ShardName.{ShardName}
 use Rattle.vs_gtid.specs.declared.JournalValue.{JournalValue}
-use Rattle.vs_gtid.specs.declared.Successor.{Successor}
 use Rattle.vs_gtid.specs.declared.Entry.{Entry}
-use Rattle.vs_model.specs.Names.{Position, IsCanonical, SameSet, same_gtid, has, is_in}
+use Rattle.vs_model.specs.Names.{Position, SameSet, same_gtid, has}
 use Rattle.vs_model.specs.Logs.{Cluster, LogsAreDistinct, log_of, journal_of}
-use Rattle.vs_gtid.specs.Vectors.{Vector, Place, IsCanonicalPlace, IsCanonicalVector, place_of, is_copy, moved, successors_of, switched}
+use Rattle.vs_gtid.specs.Vectors.{Vector, Place, IsCanonicalPlace, IsCanonicalVector, place_of, is_copy, moved}
 use Rattle.vs_gtid.specs.Vectors.Place.{Fresh, Copying, Streaming}
 use Rattle.vs_model.specs.Frames.{shard_of, vector_after}
 use Rattle.vs_model.specs.Frames.Frame.{Tx}
@@ -16,7 +14,6 @@ use Rattle.vs_model.specs.Legal.{NoParticipantStands, JournalFits}
 use Rattle.vs_model.specs.Steps.{Step}
 use Rattle.vs_model.specs.Core.{Piece, PlaceAfter, IsOfCopy, AreGiven, HasBase, IsNoStranger, frame_of}
 use Rattle.vs_model.specs.Core.Piece.{Transaction, CopiedRows, CopyEnd}
-use Rattle.vs_model.proofs.Each.{all_append, all_filtered}
 use Rattle.vs_model.proofs.Places.{moved_either}
 use Rattle.vs_model.proofs.OneStep.{step_tx, step_copy, journal_of-picked}
 use Rattle.vs_model.proofs.Given.{next_streamed, rows_not_streamed, end_not_streamed, same_place}
@@ -26,16 +23,6 @@ pub canonical_moved : (v : Vector) (s : ShardName) (place : Place) → IsCanonic
 canonical_moved [] s place all one = tt
 canonical_moved (slot ∷ v) s place all one =
     moved_either IsCanonicalVector v s place slot (λ e. (one, all.1)) (λ e. (all.0, canonical_moved v s place all.1 one))
-
-canonical_successors : (ns : List Successor) → AllByRecursion (λ n. IsCanonical n.position) ns → IsCanonicalVector (map (λ n. (n.name, Streaming n.position)) ns)
-canonical_successors [] h = tt
-canonical_successors (n ∷ ns) h = (h.0, canonical_successors ns h.1)
-
-pub canonical_switched : (v : Vector) (j : JournalValue) → IsCanonicalVector v → AllByRecursion (λ n. IsCanonical n.position) j.successors →
-    IsCanonicalVector (switched v j)
-canonical_switched v j all new =
-    all_append (λ slot. IsCanonicalPlace slot.1) (filter (λ slot. not (is_in slot.0 j.participants)) v) (successors_of j)
-    (all_filtered (λ slot. IsCanonicalPlace slot.1) (λ slot. not (is_in slot.0 j.participants)) v all) (canonical_successors j.successors new)
 
 -- the frame of a piece
 pub shard_of_piece : (s : ShardName) (piece : Piece) (v : Vector) → shard_of (frame_of s piece v) ≡ Some s

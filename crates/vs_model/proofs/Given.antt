@@ -197,28 +197,3 @@ module _ (bound : Bound) (s : ShardName) (log : Log) where
   at_journal Fresh j given = absurd (some_is_not_none j given)
   at_journal (Copying p l) j given = absurd (some_is_not_none j given)
   at_journal (Streaming p) j given = (p, refl, no_piece_due p given.told given.are given.due_ones given.own.0, given.own.1)
-
--- the pieces lead from one place to the other
-abbrev pub Leads : Place → List Piece → Place → Type 0
-Leads start [] place = place ≡ start
-Leads start (piece ∷ pieces) place = (mid : Place) × PlaceAfter start piece mid × IsCanonicalPlace mid × Leads mid pieces place
-
-pub leads_on : (start from to : Place) (pieces : List Piece) (piece : Piece) → Leads start pieces from → PlaceAfter from piece to → IsCanonicalPlace to →
-    Leads start (pieces ++ piece ∷ []) to
-leads_on start from to [] piece leads moves canonical = (to, subst (λ x. PlaceAfter x piece to) leads moves, canonical, refl)
-leads_on start from to (x ∷ pieces) piece leads moves canonical =
-    (leads.0, leads.1, leads.2, leads_on leads.0 from to pieces piece leads.3 moves canonical)
-
-module _ (bound : Bound) (s : ShardName) (log : Log) (distinct : HaveDistinctGtids log.entries) (more : List Piece) (last : Option JournalValue) (place : Place) where
-  pub given_led : (handled : List Piece) (start : Place) → AreGiven bound s log (handled ++ more) last start → Leads start handled place →
-      AreGiven bound s log more last place
-  given_led [] start given leads = subst (AreGiven bound s log more last) (sym leads) given
-  given_led (x ∷ handled) start given leads =
-      given_led handled leads.0 (given_on bound s log distinct (handled ++ more) last leads.0 leads.2 start x given leads.1) leads.3
-
-  pub base_led : (handled : List Piece) (start : Place) → AreGiven bound s log (handled ++ more) last start → Leads start handled place →
-      HasBase log start → HasBase log place
-  base_led [] start given leads base = subst (HasBase log) (sym leads) base
-  base_led (x ∷ handled) start given leads base =
-      base_led handled leads.0 (given_on bound s log distinct (handled ++ more) last leads.0 leads.2 start x given leads.1) leads.3
-      (base_on bound s log distinct (handled ++ more) last leads.0 leads.2 start x given leads.1 base)

@@ -15,10 +15,8 @@ mod Lanes
 mod LaneExamples
 pub mod Given
 pub mod Gate
-mod GateLanes
-pub mod CoreRuns
-mod CoreEnds
-mod CoreExamples
+pub mod Ends
+mod StreamExamples
 mod Keys
 mod CopyRows
 mod Client

@@ -1,5 +1,5 @@
 -- Equal lists have equal parts, and what is left where tests drop items.
-use Rattle.std.proofs.Common.{◌≡◌, Bool, true, false, not, cond, ◌||◌, ◌&&◌, List, [], ◌∷◌, Option, Some, None, filter, refl, ap, unwrap_or, true≢false, is_some}
+use Rattle.std.proofs.Common.{◌≡◌, ◌≢◌, Bool, true, false, not, cond, ◌||◌, ◌&&◌, List, [], ◌∷◌, ◌++◌, Option, Some, None, filter, refl, ap, unwrap_or, true≢false, is_some}
 use Rattle.std.specs.List.{list_any}
 use Rattle.std.proofs.lemmas.Bool.{or_parts, or_from}
 
@@ -29,6 +29,14 @@ not_either true b = refl
 not_either false b = refl
 
 module _ {X : Type 0} where
+  pub left_nil : (xs ys : List X) → xs ++ ys ≡ [] → xs ≡ []
+  left_nil [] ys e = refl
+  left_nil (x ∷ xs) ys e = absurd (cons_is_not_nil _ _ e)
+
+  pub not_nil : (xs ys : List X) (x : X) → xs ++ x ∷ ys ≢ []
+  not_nil [] ys x e = cons_is_not_nil _ _ e
+  not_nil (y ∷ xs) ys x e = cons_is_not_nil _ _ e
+
   kept_once : (u : X → Bool) (a : Bool) (x : X) (xs ys : List X) → filter u xs ≡ ys → filter u (cond a (x ∷ xs) xs) ≡ cond (a && u x) (x ∷ ys) ys
   kept_once u true x xs ys e = ap (λ l. cond (u x) (x ∷ l) l) e
   kept_once u false x xs ys e = e

@@ -7,13 +7,13 @@ mod tests;
 
 ghost use Rattle.std.specs.List.Sorted.{IsStrictlySortedBy};
 ghost use Rattle.std.specs.List.{AllByRecursion, Contains};
-ghost use Rattle.std.specs.Prelude.{[], ◌++◌, ◌&&◌, ◌∷◌, ◌≡◌, IsTrue, List, None, Option, Some, false, map, ℕ};
+ghost use Rattle.std.specs.Prelude.{[], ◌++◌, ◌&&◌, ◌∷◌, ◌≡◌, IsTrue, List, None, Option, Some, map, ℕ};
 ghost use Rattle.vs_base.specs.declared.ShardName.{ShardName};
 ghost use Rattle.vs_gtid.specs.declared.Entry.{Entry};
 ghost use Rattle.vs_gtid.specs.declared.JournalValue.{JournalValue};
 ghost use Rattle.vs_model.specs.Copies.{ChangesFit, IsOrdered, KeepsKeys, client_row, copied_row};
 ghost use Rattle.vs_model.specs.Copy.{Bound, Filter, changes_in, front, picked};
-ghost use Rattle.vs_model.specs.Core.{AreGiven, AreLanes, Core, CoreRun, HasAllCopied, Piece, PlaceAfter};
+ghost use Rattle.vs_model.specs.Core.{AreGiven, Piece, PlaceAfter};
 ghost use Rattle.vs_model.specs.Frames.Frame.{AllCopied, Beat, Halt, Switch};
 ghost use Rattle.vs_model.specs.Frames.{Frame, frames_of, last_vector, vectors_along};
 ghost use Rattle.vs_model.specs.Laws.{DueGoesOn, StepsAreLegal, StopStays, TransactionsAreSteps};
@@ -34,7 +34,7 @@ ghost use Rattle.vs_model.specs.Reached.{HasAllDue, IsFinal, IsSettled, StartsAr
 ghost use Rattle.vs_model.specs.Requests.{by_shard, is_of, shards_of};
 ghost use Rattle.vs_model.specs.Steps.{AreFirstDue, SendsCopy, Step, Steps};
 ghost use Rattle.vs_gtid.specs.Vectors.Place.{Fresh};
-ghost use Rattle.vs_gtid.specs.Vectors.{Copies, IsCanonicalPlace, IsCanonicalVector, Place, Vector, place_of, stands, switched};
+ghost use Rattle.vs_gtid.specs.Vectors.{IsCanonicalPlace, IsCanonicalVector, Place, Vector, place_of, stands, switched};
 
 /// Frames that follow one another by lawful steps are a legal list, and there is no other.
 pub fn law_steps()
@@ -95,19 +95,6 @@ pub fn law_lane()
     ensures rest { (bound : Bound) (s : ShardName) (log : Log) (piece : Piece) (pieces : List Piece) (last : Option JournalValue) (from to : Place) →
         HaveDistinctGtids log.entries → AreGiven bound s log (piece ∷ pieces) last from → PlaceAfter from piece to → IsCanonicalPlace to →
         AreGiven bound s log pieces last to }
-{}
-
-/// Whatever the order in which pieces are taken and handled, lanes are lost and begun again, and
-/// journals take effect: where each lane gave what its log lets it, the frames are legal. The gate's
-/// vector is the last one. Where a shard copied and none does any more, the end of all copies was
-/// sent behind the last end of a copy, or is due.
-pub fn law_core()
-    ensures legal { (cluster : Cluster) (rules : Filter) (v0 : Vector) (fs : List Frame) (core : Core) → LogsAreDistinct cluster →
-        IsCanonicalVector v0 → CoreRun v0 fs core → AreLanes cluster rules core → Legal cluster rules v0 fs }
-    ensures vector { (v0 : Vector) (fs : List Frame) (core : Core) → CoreRun v0 fs core → last_vector v0 fs ≡ core.vector }
-    ensures all_copied { (cluster : Cluster) (rules : Filter) (v0 : Vector) (fs : List Frame) (core : Core) (s : ShardName) (place : Place) →
-        LogsAreDistinct cluster → IsCanonicalVector v0 → CoreRun v0 fs core → AreLanes cluster rules core →
-        Copies v0 s place → NoneCopies core.vector → core.all_copied ≡ false → HasAllCopied fs }
 {}
 
 /// A client that applies the frames of a shard to empty tables, from the beginning of its copy on,

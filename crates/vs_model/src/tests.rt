@@ -1,6 +1,5 @@
 use crate::{
-    law_copies, law_core, law_due, law_final, law_frames, law_lane, law_resume, law_shards,
-    law_steps,
+    law_copies, law_due, law_final, law_frames, law_lane, law_resume, law_shards, law_steps,
 };
 
 #[test]
@@ -11,7 +10,6 @@ fn laws_are_called() {
     law_frames();
     law_due();
     law_lane();
-    law_core();
     law_copies();
     law_shards();
 }
