@@ -7,3 +7,8 @@ pub mod AcceptLaws
 pub mod FindLaws
 pub mod JournalLaws
 pub mod TextLaws
+pub mod GapLaws
+pub mod RunLaws
+pub mod EscapeLaws
+pub mod TokenLaws
+pub mod CutTexts

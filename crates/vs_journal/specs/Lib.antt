@@ -7,3 +7,4 @@ pub mod NameOrder
 pub mod Refusals
 pub mod Texts
 pub mod Productions
+pub mod Spellings
