@@ -1,8 +1,8 @@
 -- Journal texts cut into tokens by the function that reads them, in place of the productions' spellings.
-use Rattle.std.proofs.Common.{◌≡◌, ◌∙◌, ◌-◌, ◌++◌, ℕ, List, [], ◌∷◌, Option, Some, None, refl, ap, sym, subst}
+use Rattle.std.proofs.Common.{◌≡◌, ◌∙◌, ◌-◌, ℕ, List, [], ◌∷◌, Option, Some, None, refl, ap, sym, subst}
 use Rattle.std.specs.Option.{option_and_then}
 use Rattle.vs_journal.specs.Grammar.{state_behind}
-use Rattle.vs_journal.specs.Spellings.{IsGap, IsTokenAt, SpellsTokens}
+use Rattle.vs_journal.specs.Spellings.{IsTokenAt, SpellsTokens}
 use Rattle.vs_journal.specs.Tokens.{NextToken, next_token}
 use Rattle.vs_journal.specs.declared.token.Token.{Token}
 use Rattle.vs_journal.specs.declared.token.Token.TheVariants as token

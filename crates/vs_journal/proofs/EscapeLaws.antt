@@ -1,8 +1,7 @@
 -- What stands behind a backslash is read as the escape that the productions say.
-use Rattle.std.proofs.Common.{◌≡◌, ◌∙◌, ◌++◌, ◌≤◌, ◌<◌, ◌+◌, ◌*◌, ◌-◌, ◌&&◌, ◌||◌, ℕ, zero, suc, Bool, true, false, List, [], ◌∷◌, Option, Some, None, length, drop, refl, ap, sym, subst, inl, inr, arith, append-nil}
-use Rattle.std.specs.Prelude.{◌==◌, ◌⊎◌, nat_le}
+use Rattle.std.proofs.Common.{◌≡◌, ◌∙◌, ◌++◌, ◌≤◌, ◌+◌, ◌*◌, ◌-◌, ℕ, Bool, true, false, List, [], ◌∷◌, Option, Some, None, length, refl, ap, sym, subst, inl, inr, arith, append-nil}
+use Rattle.std.specs.Prelude.{◌==◌, nat_le}
 use Rattle.std.proofs.lemmas.Bool.{and_parts, and_from, le-leb, leb-true, eqb-true, and_left, and_right}
-use Rattle.std.proofs.lemmas.Bool.Decides.{nat_tests}
 use Rattle.vs_journal.specs.Escapes.{escape_at, escape_by, hex_byte, hex_escape, hex_second, hex_value, is_octal, octal_byte, octal_escape, octal_pair, simple_escape}
 use Rattle.vs_journal.specs.Spellings.{BeginsEscape, EndsOctal, HasNoEscape, IsEscape, IsOctal}
 use Rattle.vs_journal.specs.declared.escape.Escape.{Escape}
@@ -100,8 +99,8 @@ hex_found (a ∷ b ∷ rest) =
     of_option (EscapeFound (0x78 ∷ a ∷ b ∷ rest)) (λ o. hex_second o (b ∷ rest)) (hex_value a)
     (λ e more. ap (λ o. hex_second o (b ∷ (rest ++ more))) e)
     (λ x e. of_option (EscapeFound (0x78 ∷ a ∷ b ∷ rest)) (λ o. hex_byte x o) (hex_value b)
-      (λ f more. ap (λ o. hex_second o (b ∷ (rest ++ more))) e ∙ ap (λ o. hex_byte x o) f)
-      (λ y f. (0x78 ∷ a ∷ b ∷ [], rest, refl, refl, omega arith, inr (inl (a, b, x, y, refl, e, f, refl)))))
+    (λ f more. ap (λ o. hex_second o (b ∷ (rest ++ more))) e ∙ ap (λ o. hex_byte x o) f)
+    (λ y f. (0x78 ∷ a ∷ b ∷ [], rest, refl, refl, omega arith, inr (inl (a, b, x, y, refl, e, f, refl)))))
 
 one_found : (a : ℕ) (rest : List ℕ) → is_octal a ≡ true → EndsOctal rest → EscapeFound (a ∷ rest) (octal_escape a rest)
 one_found a rest h ends =

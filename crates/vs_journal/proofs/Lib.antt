@@ -12,3 +12,7 @@ pub mod RunLaws
 pub mod EscapeLaws
 pub mod TokenLaws
 pub mod CutTexts
+pub mod GatherLaws
+pub mod SpellTexts
+pub mod WrittenLaws
+pub mod FrontLaws

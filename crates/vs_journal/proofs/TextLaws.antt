@@ -3,7 +3,7 @@ use Rattle.std.proofs.Common.{◌≡◌, ◌∙◌, ◌++◌, ◌<◌, ◌≤◌
 use Rattle.std.specs.Option.{option_and_then}
 use Rattle.std.specs.Prelude.{◌⊎◌}
 use Rattle.vs_journal.specs.Grammar.{first_state, journal_at, parsed_journal, state_behind, with_member, whole_journal}
-use Rattle.vs_journal.specs.Productions.{IsJournal, EndsEarly, GoesOnWithNoString, GoesOnWithNoToken, GoesOnWrongly, IsJournalText, IsNoJournalFrom, JournalsAreProductions}
+use Rattle.vs_journal.specs.Productions.{IsJournal, EndsEarly, GoesOnRightly, GoesOnWithNoString, GoesOnWithNoToken, GoesOnWrongly, IsJournalText, IsNoJournalFrom, JournalsAreProductions}
 use Rattle.vs_journal.specs.Tokens.{NextToken, next_token}
 use Rattle.vs_journal.specs.declared.token.Bracket.{Bracket}
 use Rattle.vs_journal.specs.declared.token.Bracket.TheVariants.{Curly}
@@ -21,54 +21,56 @@ use Rattle.vs_journal.proofs.AcceptLaws.{accept, at, same_brackets, open_member}
 use Rattle.vs_journal.specs.Grammar.{no_member}
 use Rattle.vs_journal.proofs.JournalLaws.{journal_found, journal_taken}
 use Rattle.vs_journal.proofs.CutTexts.{BeginsWithTokens, cut_is_spelled, found_as, place_in_text, reached, spelled_is_cut}
-use Rattle.vs_journal.proofs.TokenLaws.{NextFound, SaidAt, none_taken}
+use Rattle.vs_journal.specs.Spellings.{SpellsTokens}
+use Rattle.vs_journal.proofs.FrontLaws.{IsWritable, IsWritten, closing, colon, comma, letter, list_end, no_bytes, none_written, one_more_written, opening, spelled_more, tokens_front, zero_number}
+use Rattle.vs_journal.proofs.TokenLaws.{NextFound, none_taken}
 use Rattle.vs_journal.proofs.ReadLemmas.{leaves_less, meant-ended, meant-more, meant-stopped, meant_from}
 
 -- ---- each state can go on
 
 abbrev CanEnd : TextState → Type 0
-CanEnd s = (more : List Token) × (j : ParsedJournal) × (accept s more ≡ Some j)
+CanEnd s = (more : List Token) × (j : ParsedJournal) × (accept s more ≡ Some j) × IsWritten more
 
 ends_from_name : (j : ParsedJournal) (c : Option OpenMember) (p : List Bracket) → CanEnd (at j c p Name)
-ends_from_name j None [] = ([], j, refl)
+ends_from_name j None [] = ([], j, refl, none_written)
 ends_from_name j (Some o) [] =
-    (token.Close o.bracket ∷ [], with_member o.role o.member j, ap (λ v. option_and_then (λ u. accept u []) (cond v (Some (at (with_member o.role o.member j) None [] Behind)) None)) (same_brackets o.bracket))
+    (token.Close o.bracket ∷ [], with_member o.role o.member j, ap (λ v. option_and_then (λ u. accept u []) (cond v (Some (at (with_member o.role o.member j) None [] Behind)) None)) (same_brackets o.bracket), one_more_written (token.Close o.bracket) [] (closing o.bracket) none_written)
 ends_from_name j c (b ∷ p) =
     let later = ends_from_name j c p in
-    (token.Close b ∷ token.Comma ∷ later.0, later.1, ap (λ v. option_and_then (λ u. accept u (token.Comma ∷ later.0)) (cond v (Some (at j c p Behind)) None)) (same_brackets b) ∙ later.2)
+    (token.Close b ∷ token.Comma ∷ later.0, later.1, ap (λ v. option_and_then (λ u. accept u (token.Comma ∷ later.0)) (cond v (Some (at j c p Behind)) None)) (same_brackets b) ∙ later.2, one_more_written (token.Close b) (token.Comma ∷ later.0) (closing b) (one_more_written token.Comma later.0 comma later.3))
 
-abbrev behind_it : (t : Token) (s u : TextState) → state_behind s t ≡ Some u → CanEnd u → CanEnd s
-behind_it t s u h later = (t ∷ later.0, later.1, ap (option_and_then (λ v. accept v later.0)) h ∙ later.2)
+behind_it : (t : Token) (s u : TextState) → IsWritable t → state_behind s t ≡ Some u → CanEnd u → CanEnd s
+behind_it t s u w h later = (t ∷ later.0, later.1, ap (option_and_then (λ v. accept v later.0)) h ∙ later.2, one_more_written t later.0 w later.3)
 
 ends_from_behind : (j : ParsedJournal) (c : Option OpenMember) (p : List Bracket) → CanEnd (at j c p Behind)
-ends_from_behind j c p = behind_it token.Comma (at j c p Behind) (at j c p Name) refl (ends_from_name j c p)
+ends_from_behind j c p = behind_it token.Comma (at j c p Behind) (at j c p Name) comma refl (ends_from_name j c p)
 
 ends_from_text : (f : FieldName) (j : ParsedJournal) (c : Option OpenMember) (p : List Bracket) → CanEnd (at j c p (BehindText f))
-ends_from_text f j c p = behind_it token.Comma (at j c p (BehindText f)) (at j c p Name) refl (ends_from_name j c p)
+ends_from_text f j c p = behind_it token.Comma (at j c p (BehindText f)) (at j c p Name) comma refl (ends_from_name j c p)
 
 ends_from_value : (f : FieldName) (j : ParsedJournal) (c : Option OpenMember) (p : List Bracket) → CanEnd (at j c p (Value f))
-ends_from_value field.Id j c p = behind_it (token.Number true (Some 0)) (at j c p (Value field.Id)) _ refl (ends_from_behind _ c p)
-ends_from_value field.MigrationType j c p = behind_it (token.Number false (Some 0)) (at j c p (Value field.MigrationType)) _ refl (ends_from_behind _ c p)
-ends_from_value field.ShardGtids j c p = behind_it (token.Open Curly) (at j c p (Value field.ShardGtids)) (at j (Some (open_member role.Successor Curly no_member)) p Name) refl (ends_from_name j (Some (open_member role.Successor Curly no_member)) p)
-ends_from_value field.Participants j c p = behind_it (token.Open Curly) (at j c p (Value field.Participants)) (at j (Some (open_member role.Participant Curly no_member)) p Name) refl (ends_from_name j (Some (open_member role.Participant Curly no_member)) p)
-ends_from_value field.Keyspace j c p = behind_it (token.Bytes []) (at j c p (Value field.Keyspace)) _ refl (ends_from_text field.Keyspace j _ p)
-ends_from_value field.Shard j c p = behind_it (token.Bytes []) (at j c p (Value field.Shard)) _ refl (ends_from_text field.Shard j _ p)
-ends_from_value field.Gtid j c p = behind_it (token.Bytes []) (at j c p (Value field.Gtid)) _ refl (ends_from_text field.Gtid j _ p)
-ends_from_value field.Unknown j c p = behind_it (token.Word []) (at j c p (Value field.Unknown)) _ refl (ends_from_behind j c p)
+ends_from_value field.Id j c p = behind_it (token.Number true (Some 0)) (at j c p (Value field.Id)) _ (zero_number true) refl (ends_from_behind _ c p)
+ends_from_value field.MigrationType j c p = behind_it (token.Number false (Some 0)) (at j c p (Value field.MigrationType)) _ (zero_number false) refl (ends_from_behind _ c p)
+ends_from_value field.ShardGtids j c p = behind_it (token.Open Curly) (at j c p (Value field.ShardGtids)) (at j (Some (open_member role.Successor Curly no_member)) p Name) opening refl (ends_from_name j (Some (open_member role.Successor Curly no_member)) p)
+ends_from_value field.Participants j c p = behind_it (token.Open Curly) (at j c p (Value field.Participants)) (at j (Some (open_member role.Participant Curly no_member)) p Name) opening refl (ends_from_name j (Some (open_member role.Participant Curly no_member)) p)
+ends_from_value field.Keyspace j c p = behind_it (token.Bytes []) (at j c p (Value field.Keyspace)) _ no_bytes refl (ends_from_text field.Keyspace j _ p)
+ends_from_value field.Shard j c p = behind_it (token.Bytes []) (at j c p (Value field.Shard)) _ no_bytes refl (ends_from_text field.Shard j _ p)
+ends_from_value field.Gtid j c p = behind_it (token.Bytes []) (at j c p (Value field.Gtid)) _ no_bytes refl (ends_from_text field.Gtid j _ p)
+ends_from_value field.Unknown j c p = behind_it (token.Word (0x61 ∷ [])) (at j c p (Value field.Unknown)) _ letter refl (ends_from_behind j c p)
 
 ends_from_item : (j : ParsedJournal) (c : Option OpenMember) (p : List Bracket) → CanEnd (at j c p BehindItem)
-ends_from_item j c p = behind_it token.CloseList (at j c p BehindItem) _ refl (ends_from_behind j c p)
+ends_from_item j c p = behind_it token.CloseList (at j c p BehindItem) _ list_end refl (ends_from_behind j c p)
 
 ends_from : (a : Awaits) (j : ParsedJournal) (c : Option OpenMember) (p : List Bracket) → CanEnd (at j c p a)
 ends_from Name j c p = ends_from_name j c p
 ends_from Behind j c p = ends_from_behind j c p
 ends_from (BehindText f) j c p = ends_from_text f j c p
-ends_from (BehindName f) j c p = behind_it token.Colon (at j c p (BehindName f)) (at j c p (Value f)) refl (ends_from_value f j c p)
+ends_from (BehindName f) j c p = behind_it token.Colon (at j c p (BehindName f)) (at j c p (Value f)) colon refl (ends_from_value f j c p)
 ends_from (Value f) j c p = ends_from_value f j c p
-ends_from FirstItem j c p = behind_it token.CloseList (at j c p FirstItem) _ refl (ends_from_behind j c p)
-ends_from Item j c p = behind_it (token.Word []) (at j c p Item) _ refl (ends_from_item j c p)
+ends_from FirstItem j c p = behind_it token.CloseList (at j c p FirstItem) _ list_end refl (ends_from_behind j c p)
+ends_from Item j c p = behind_it (token.Word (0x61 ∷ [])) (at j c p Item) _ letter refl (ends_from_item j c p)
 ends_from BehindItem j c p = ends_from_item j c p
-ends_from BehindItemText j c p = behind_it token.CloseList (at j c p BehindItemText) _ refl (ends_from_behind j c p)
+ends_from BehindItemText j c p = behind_it token.CloseList (at j c p BehindItemText) _ list_end refl (ends_from_behind j c p)
 
 can_end : (s : TextState) → CanEnd s
 can_end s = ends_from s.awaits s.journal s.current s.passed
@@ -188,6 +190,13 @@ stopped : (ts : List Token) (u : TextState) (rest : List ℕ) (size : ℕ) (o : 
 stopped ts u rest size None r found blocks = inl (found, no_end ts u r blocks, refl)
 stopped ts u rest size (Some next) r found blocks = stops_at ts rest size next.0 next.1.0 next.1.1 found (misfits ts u next.1.0 r blocks)
 
+-- what is written behind the tokens makes a journal's text of them
+goes_on : (ts more : List Token) (text rest : List ℕ) (j : ParsedJournal) → SpellsTokens text ts rest → IsWritten more → IsJournal (ts ++ more) j → GoesOnRightly text rest
+goes_on ts more text rest j begins written is =
+    let front = tokens_front ts text rest begins in
+    let spelled = spelled_more ts more (front.0 ++ written.0) written.0 [] (front.2 written.0 written.1) written.2 in
+    (front.0, written.0, j, front.1, (ts ++ more, ([], spelled, inl ([], refl)), is))
+
 none_so : (text : List ℕ) (spot : ℕ) (r : Result ParsedJournal ℕ) → r ≡ Err spot → Runs first_state (length text) text r → IsNoJournalFrom text spot
 none_so text spot (Ok j) e h = absurd (cc)
 none_so text spot (Err place) e h =
@@ -195,11 +204,12 @@ none_so text spot (Err place) e h =
     let ts = h.0 in
     let u = h.2 in
     let on = can_end u in
+    let begins = cut_is_spelled ts first_state u text h.1 h.3 h.4 in
     record {
       before = ts;
       rest = h.1;
-      begins = cut_is_spelled ts first_state u text h.1 h.3 h.4;
-      goes_on = (on.0, on.1, journal_found (ts ++ on.0) on.1 (accept_behind ts on.0 first_state u h.4 ∙ on.2));
+      begins = begins;
+      goes_on = goes_on ts on.0 text h.1 on.1 begins on.3 (journal_found (ts ++ on.0) on.1 (accept_behind ts on.0 first_state u h.4 ∙ on.2));
       stops = subst (Stops ts h.1 (length text)) (sym h.8 ∙ same) (stopped ts u h.1 (length text) h.5 h.4 (found_as h.1 h.5 h.6) h.7);
     }
 

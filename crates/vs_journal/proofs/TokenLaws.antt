@@ -1,16 +1,15 @@
 -- The next token of a text is the one that the productions spell, or none stands there.
-use Rattle.std.proofs.Common.{◌≡◌, ◌∙◌, ◌++◌, ◌≤◌, ◌<◌, ◌+◌, ◌-◌, ◌||◌, ℕ, zero, suc, Bool, true, false, List, [], ◌∷◌, Option, Some, None, Result, Ok, Err, length, drop, refl, ap, sym, subst, inl, inr, arith, append_assoc, length-append}
-use Rattle.std.specs.Prelude.{◌==◌, ◌⊎◌}
+use Rattle.std.proofs.Common.{◌≡◌, ◌∙◌, ◌++◌, ◌≤◌, ◌<◌, ◌||◌, ℕ, zero, suc, Bool, true, false, List, [], ◌∷◌, Option, Some, None, Result, Ok, Err, length, drop, refl, ap, sym, subst, inl, inr, arith, append_assoc, length-append}
+use Rattle.std.specs.Prelude.{◌==◌}
 use Rattle.std.specs.List.{list_all, take_while}
-use Rattle.std.proofs.lemmas.Bool.{and_parts, eqb-true, eq-eqb, or_cases, or_left, or_parts, or_from, or_right}
+use Rattle.std.proofs.lemmas.Bool.{and_parts, eqb-true, eq-eqb, or_cases, or_from}
 use Rattle.vs_base.specs.Blanks.{is_blank}
 use Rattle.vs_base.specs.Numbers.{is_digit, small_value}
 use Rattle.vs_journal.specs.Escapes.{escape_at}
-use Rattle.vs_journal.specs.Tokens.{NextToken, escaped, is_identifier_byte, mark_of, next_token, number_token, past_gap, past_run, place_left, placed_token, run_token, string_from, string_token, token_at, token_in, with_first}
-use Rattle.vs_journal.specs.Spellings.{AreDigits, BeginsNoGap, EndsRun, EndsWithin, HasNoEscape, HasNoString, HasNoToken, IsEscape, IsGap, IsLastGap, IsNumber, IsQuote, IsStringByte, IsTokenAt, IsWord, SpellsBytes}
+use Rattle.vs_journal.specs.Tokens.{NextToken, escaped, is_identifier_byte, mark_of, next_token, number_token, past_gap, past_run, placed_token, run_token, string_from, string_token, token_at, token_in, with_first}
+use Rattle.vs_journal.specs.Spellings.{AreDigits, BeginsNoGap, EndsRun, EndsWithin, HasNoString, HasNoToken, IsEscape, IsGap, IsLastGap, IsNumber, IsQuote, IsStringByte, IsTokenAt, IsWord, SpellsBytes}
 use Rattle.vs_journal.specs.declared.escape.Escape.{Escape}
 use Rattle.vs_journal.specs.declared.escape.Escape.TheVariants.{Stands, Unknown, Cut}
-use Rattle.vs_journal.specs.declared.token.Bracket.{Bracket}
 use Rattle.vs_journal.specs.declared.token.Bracket.TheVariants.{Curly, Angle}
 use Rattle.vs_journal.specs.declared.token.Token.{Token}
 use Rattle.vs_journal.specs.declared.token.Token.TheVariants as token

@@ -8,3 +8,4 @@ pub mod Refusals
 pub mod Texts
 pub mod Productions
 pub mod Spellings
+pub mod Written

@@ -136,6 +136,10 @@ IsSpelled text ts = (rest : List ℕ) × SpellsTokens text ts rest × IsLastGap 
 abbrev pub IsJournalText : List ℕ → ParsedJournal → Type 0
 IsJournalText text j = (ts : List Token) × IsSpelled text ts × IsJournal ts j
 
+-- what stands before the rest is the front of a journal's text
+abbrev pub GoesOnRightly : List ℕ → List ℕ → Type 0
+GoesOnRightly text rest = (front more : List ℕ) × (j : ParsedJournal) × (text ≡ front ++ rest) × IsJournalText (front ++ more) j
+
 -- behind these tokens the text ends, at this place, and they say no journal
 abbrev pub EndsEarly : List Token → List ℕ → ℕ → ℕ → Type 0
 EndsEarly before rest size at = IsLastGap rest × ((j : ParsedJournal) → IsJournal before j → ⊥) × (at ≡ size)
@@ -160,7 +164,7 @@ pub record IsNoJournalFrom (text : List ℕ) (at : ℕ) : Type 0 where
   pub before : List Token
   pub rest : List ℕ
   pub begins : SpellsTokens text before rest
-  pub goes_on : (more : List Token) × (j : ParsedJournal) × IsJournal (before ++ more) j
+  pub goes_on : GoesOnRightly text rest
   pub stops : EndsEarly before rest (length text) at ⊎ (GoesOnWrongly before rest (length text) at ⊎ (GoesOnWithNoToken rest (length text) at ⊎ GoesOnWithNoString rest (length text) at))
 
 -- a text is a journal's, or none from a place on, as it is read

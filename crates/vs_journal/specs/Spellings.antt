@@ -11,7 +11,6 @@ use Rattle.vs_base.specs.Blanks.{is_blank}
 use Rattle.vs_base.specs.Numbers.{is_digit, small_value}
 use Rattle.vs_journal.specs.Escapes.{hex_value, is_octal, simple_escape}
 use Rattle.vs_journal.specs.Tokens.{is_identifier_byte}
-use Rattle.vs_journal.specs.declared.token.Bracket.{Bracket}
 use Rattle.vs_journal.specs.declared.token.Bracket.TheVariants.{Curly, Angle}
 use Rattle.vs_journal.specs.declared.token.Token.{Token}
 use Rattle.vs_journal.specs.declared.token.Token.TheVariants as token
