@@ -67,15 +67,15 @@ one_more rules bytes base entries group e w good is new room =
     let tail : joined (w.events ++ group) ≡ joined w.events ++ joined group = joined-append w.events group in
     let bare : bytes ≡ magic ++ joined w.events = cut.are ∙ ap (λ z. magic ++ z) (append-nil (joined w.events)) in
     let are : bytes ++ joined group ≡ magic ++ (joined (w.events ++ group) ++ []) =
-      ap (λ z. z ++ joined group) bare ∙ (append_assoc magic (joined w.events) (joined group) ∙ ap (λ z. magic ++ z) (sym tail ∙ sym (append-nil (joined (w.events ++ group))))) in
+    ap (λ z. z ++ joined group) bare ∙ (append_assoc magic (joined w.events) (joined group) ∙ ap (λ z. magic ++ z) (sym tail ∙ sym (append-nil (joined (w.events ++ group))))) in
     let size : length (joined (w.events ++ group)) ≡ length (joined w.events) + length (joined group) = ap length tail ∙ length-append (joined w.events) (joined group) in
     let before : length bytes ≡ 4 + length (joined w.events) = omega (arith, ap length bare, length-append magic (joined w.events)) in
     let kept : filter is_counted (log.after ++ group) ≡ log.previous ++ (in_turn (log.groups ++ group ∷ []) ++ []) =
-      filter-append is_counted log.after group
-      ∙ (ap (λ z. filter is_counted log.after ++ z) (all_counted group (counteds group good))
-      ∙ (ap (λ z. z ++ group) log.parts
-      ∙ (append_assoc log.previous (in_turn log.groups ++ []) group
-      ∙ ap (λ z. log.previous ++ z) (ap (λ z. z ++ group) (append-nil (in_turn log.groups)) ∙ (sym (in_turn-more log.groups group) ∙ sym (append-nil (in_turn (log.groups ++ group ∷ [])))))))) in
+    filter-append is_counted log.after group
+    ∙ (ap (λ z. filter is_counted log.after ++ z) (all_counted group (counteds group good))
+    ∙ (ap (λ z. z ++ group) log.parts
+    ∙ (append_assoc log.previous (in_turn log.groups ++ []) group
+    ∙ ap (λ z. log.previous ++ z) (ap (λ z. z ++ group) (append-nil (in_turn log.groups)) ∙ (sym (in_turn-more log.groups group) ∙ sym (append-nil (in_turn (log.groups ++ group ∷ [])))))))) in
     record {
       events = w.events ++ group;
       cut = record { are = are; whole = all_both IsEvent w.events group cut.whole (wholes group good); short = omega (arith, size, before) };

@@ -12,6 +12,7 @@ const END: u64 = 9_223_372_036_854_775_807;
 
 /// The bytes of an interval behind its UUID, and the greatest of a body.
 const GROUP: usize = 40;
+
 const MOST: usize = 8 + 1024 * GROUP;
 
 /// Appends the GTIDs of one server from the first up to the number before the end.

@@ -21,8 +21,11 @@ const HEAD: usize = 19;
 
 /// The types of events.
 const QUERY: u8 = 2;
+
 const FORMAT: u8 = 15;
+
 const GTID: u8 = 33;
+
 const PREVIOUS_GTIDS: u8 = 35;
 
 /// The lowest four bytes of a size.
@@ -72,11 +75,7 @@ fn put_format_layout(out: &mut Vec<u8>, time: u32) -> Result<(), OutOfMemory>
 
 /// Appends a format description of version 4, without checksums.
 #[tactic(auto, unfolding(crate::specs::Events::format_event))]
-pub(crate) fn put_format(
-    alloc: Global,
-    out: &mut Vec<u8>,
-    time: u32,
-) -> Result<(), OutOfMemory>
+pub(crate) fn put_format(alloc: Global, out: &mut Vec<u8>, time: u32) -> Result<(), OutOfMemory>
     ensures { OnOk result (out.new.items ≡ out.old.items ++ format_event time) }
 {
     let mut body = Vec::new(alloc);

@@ -4,6 +4,8 @@
 mod base;
 mod event;
 mod laws;
+#[cfg(test)]
+mod tests;
 mod writer;
 
 pub use laws::{law_bases, law_statements};
