@@ -28,6 +28,10 @@ pub record HasHead (e : Event) (time kind : ℕ) (body : List ℕ) : Type 0 wher
   pub bytes : length e ≡ 19 + length body
   pub body_is : body_of e ≡ body
 
+pub event_length : (time kind : ℕ) (body : List ℕ) → length (event_bytes time kind body) ≡ 19 + length body
+unfolding event_bytes
+event_length time kind body = omega arith
+
 pub event_head : (time kind : ℕ) (body : List ℕ) → time < 2 ^ 32 → 19 + length body < 2 ^ 32 → HasHead (event_bytes time kind body) time kind body
 unfolding event_bytes kind_of flags_of time_of length_of body_of
 event_head time kind body h k = record {

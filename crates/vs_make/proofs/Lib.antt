@@ -1,3 +1,4 @@
 pub mod EventLaws
 pub mod LogLaws
 pub mod ListLemmas
+pub mod RowLaws

@@ -41,10 +41,10 @@ known_is rules known after (g ∷ gs) [] a = elim a [ ]
 known_is rules known after (g ∷ gs) (e ∷ es) a = known_is rules (added known e.gtid) after gs es a.2
 
 -- an event that counts, within the limit
-record IsGood (e : Event) : Type 0 where
-  whole : IsEvent e
-  small : length_of e ≤ limit
-  counts : is_counted e ≡ true
+pub record IsGood (e : Event) : Type 0 where
+  pub whole : IsEvent e
+  pub small : length_of e ≤ limit
+  pub counts : is_counted e ≡ true
 
 wholes : (es : List Event) → AllByRecursion IsGood es → AllByRecursion IsEvent es
 wholes [] a = tt
@@ -58,7 +58,7 @@ counteds : (es : List Event) → AllByRecursion IsGood es → AllByRecursion (λ
 counteds [] a = tt
 counteds (e ∷ es) a = (a.0.counts, counteds es a.1)
 
-one_more : {M : Type 0} (rules : Rules M) (bytes : List ℕ) (base : Position) (entries : List Entry) (group : List Event) (e : Entry) →
+pub one_more : {M : Type 0} (rules : Rules M) (bytes : List ℕ) (base : Position) (entries : List Entry) (group : List Event) (e : Entry) →
     IsWholeLog rules bytes base entries → AllByRecursion IsGood group → IsEntry rules group e → IsNew (known_behind base entries) e.gtid → length bytes + length (joined group) ≤ last_place →
     IsWholeLog rules (bytes ++ joined group) base (entries ++ e ∷ [])
 one_more rules bytes base entries group e w good is new room =
@@ -96,13 +96,13 @@ one_more rules bytes base entries group e w good is new room =
 
 -- ---- statements
 
-gtid_length : (g : Gtid) → length g.uuid ≡ 16 → length (gtid_layout g) ≡ 25
+pub gtid_length : (g : Gtid) → length g.uuid ≡ 16 → length (gtid_layout g) ≡ 25
 gtid_length g long = omega (arith, length-append g.uuid (little_bytes 8 g.number))
 
-query_length : (schema text : List ℕ) → length (query_layout schema text) ≡ 14 + length schema + length text
+pub query_length : (schema text : List ℕ) → length (query_layout schema text) ≡ 14 + length schema + length text
 query_length schema text = omega (arith, length-append schema (0 ∷ text))
 
-statement_known : (keyspace : List ℕ) (tables : Schema) (schema text : List ℕ) → length schema ≤ 255 → (rules_of keyspace tables).statement (query_layout schema text) ≡ Ok (said keyspace schema text (first_word text))
+pub statement_known : (keyspace : List ℕ) (tables : Schema) (schema text : List ℕ) → length schema ≤ 255 → (rules_of keyspace tables).statement (query_layout schema text) ≡ Ok (said keyspace schema text (first_word text))
 unfolding statement_of
 statement_known keyspace tables schema text short = ap (statement_by keyspace) (query_said schema text short)
 

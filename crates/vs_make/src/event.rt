@@ -12,6 +12,7 @@ ghost use Rattle.vs_make.specs.Events.{
   query_event,
   query_layout,
 };
+ghost use Rattle.vs_make.specs.Rows.{map_event, rows_event, xid_event};
 
 use std::alloc::Global;
 use vs_base::{Gtid, OutOfMemory};
@@ -24,6 +25,8 @@ const QUERY: u8 = 2;
 
 const FORMAT: u8 = 15;
 
+const XID: u8 = 16;
+const TABLE_MAP: u8 = 19;
 const GTID: u8 = 33;
 
 const PREVIOUS_GTIDS: u8 = 35;
@@ -144,4 +147,33 @@ pub(crate) fn put_query(
     let mut body = Vec::new(alloc);
     put_query_layout(&mut body, schema, text)?;
     put_event(out, time, QUERY, body.as_slice())
+}
+
+/// Appends a table map with this body.
+#[tactic(auto, unfolding(crate::specs::Rows::map_event))]
+pub(crate) fn put_map(out: &mut Vec<u8>, time: u32, body: &[u8]) -> Result<(), OutOfMemory>
+    ensures { OnOk result (out.new.items ≡ out.old.items ++ map_event time body.now) }
+{
+    put_event(out, time, TABLE_MAP, body)
+}
+
+/// Appends a rows event of this type with this body.
+#[tactic(auto, unfolding(crate::specs::Rows::rows_event))]
+pub(crate) fn put_rows(
+    out: &mut Vec<u8>,
+    time: u32,
+    kind: u8,
+    body: &[u8],
+) -> Result<(), OutOfMemory>
+    ensures { OnOk result (out.new.items ≡ out.old.items ++ rows_event time kind body.now) }
+{
+    put_event(out, time, kind, body)
+}
+
+/// Appends the end of a transaction.
+#[tactic(auto, unfolding(crate::specs::Rows::xid_event))]
+pub(crate) fn put_xid(out: &mut Vec<u8>, time: u32) -> Result<(), OutOfMemory>
+    ensures { OnOk result (out.new.items ≡ out.old.items ++ xid_event time) }
+{
+    put_event(out, time, XID, &0u64.to_le_bytes())
 }

@@ -2,11 +2,15 @@
 #![tactic(auto)]
 
 mod base;
+mod bodies;
 mod event;
 mod laws;
+mod rows;
+mod same;
 #[cfg(test)]
 mod tests;
+mod value;
 mod writer;
 
-pub use laws::{law_bases, law_statements};
+pub use laws::{law_bases, law_statements, law_transactions};
 pub use writer::LogWriter;

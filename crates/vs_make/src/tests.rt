@@ -40,7 +40,7 @@ fn put_drop(
 fn two_drops(alloc: Global, base: &GtidSet, first: u64) -> Result<LogWriter, OutOfMemory> {
     let mut writer = LogWriter::new(alloc, base, 9)?;
     put_drop(&mut writer, first, b"drop table t", 100)?;
-    put_drop(&mut writer, first + 1, b"drop table s", 101)?;
+    put_drop(&mut writer, first.wrapping_add(1), b"drop table s", 101)?;
     Ok(writer)
 }
 
@@ -87,7 +87,7 @@ fn is_read_again(alloc: Global, base: &GtidSet, first: u64) -> bool {
         return false;
     };
     next_statement(&mut reader) == (first, 100, 12)
-        && next_statement(&mut reader) == (first + 1, 101, 12)
+        && next_statement(&mut reader) == (first.wrapping_add(1), 101, 12)
         && next_statement(&mut reader) == (0, 0, 0)
         && reader.base().is_some_and(|read| read.is_same(base))
 }

@@ -1,13 +1,15 @@
 //! A writer of logs.
-ghost use Rattle.std.specs.Prelude.{◌≡◌, ◌++◌, IfOk, OnErr, OnOk};
+ghost use Rattle.std.specs.Prelude.{◌≡◌, ◌++◌, IfOk, OnErr, OnOk, map};
+ghost use Rattle.vs_make.specs.Rows.{WritesRows, inserted, transaction_bytes};
 ghost use Rattle.vs_make.specs.Events.{statement_bytes};
 ghost use Rattle.vs_make.specs.Written.{Begins};
 
 use crate::base::base_block;
-use crate::event::{put_base, put_format, put_gtid, put_query};
+use crate::bodies::{Bodies, INSERTS, UPDATES, insert_bodies, update_bodies};
+use crate::event::{put_base, put_format, put_gtid, put_map, put_query, put_rows, put_xid};
 use std::alloc::Global;
 use std::marker::Model;
-use vs_base::{Gtid, OutOfMemory};
+use vs_base::{Change, Gtid, Image, OutOfMemory, Table};
 use vs_gtid::GtidSet;
 
 /// What each log begins with.
@@ -60,10 +62,68 @@ impl LogWriter {
         Ok(())
     }
 
+    /// Writes a transaction that inserts these rows: a table map, and one event of the rows. Each cell is
+    /// a text of its column's kind, and a row has one for each column.
+    pub fn insert(
+        &mut self,
+        gtid: Gtid,
+        schema: &[u8],
+        table: &Table,
+        rows: &[Image],
+        time: u32,
+    ) -> Result<(), OutOfMemory>
+        ensures ok { OnOk result (WritesRows self.old self.new gtid schema.now table.now time 30 (map (inserted table.now.name) rows.now)) }
+        ensures err { OnErr result (self.new ≡ self.old) }
+    {
+        let bodies = insert_bodies(self.alloc, schema, table, rows)?;
+        let events = transaction(self.alloc, &gtid, schema, time, INSERTS, &bodies)?;
+        self.bytes.extend_from_slice(events.as_slice())?;
+        Ok(())
+    }
+
+    /// Writes a transaction that updates rows of the table: a table map, and one event of the rows. Each
+    /// change names the table and has both images, of which the cells are as those of `insert`.
+    pub fn update(
+        &mut self,
+        gtid: Gtid,
+        schema: &[u8],
+        table: &Table,
+        rows: &[Change],
+        time: u32,
+    ) -> Result<(), OutOfMemory>
+        ensures ok { OnOk result (WritesRows self.old self.new gtid schema.now table.now time 31 rows.now) }
+        ensures err { OnErr result (self.new ≡ self.old) }
+    {
+        let bodies = update_bodies(self.alloc, schema, table, rows)?;
+        let events = transaction(self.alloc, &gtid, schema, time, UPDATES, &bodies)?;
+        self.bytes.extend_from_slice(events.as_slice())?;
+        Ok(())
+    }
+
     /// The log so far.
     pub fn bytes(&self) -> &[u8]
         ensures { result.now ≡ self.now }
     {
         self.bytes.as_slice()
     }
+}
+
+/// The events of a transaction of these bodies.
+fn transaction(
+    alloc: Global,
+    gtid: &Gtid,
+    schema: &[u8],
+    time: u32,
+    kind: u8,
+    bodies: &Bodies,
+) -> Result<Vec<u8>, OutOfMemory>
+    ensures { IfOk result (λ v. v.items ≡ transaction_bytes gtid.now schema.now time kind bodies.now.map.items bodies.now.rows.items) }
+{
+    let mut events = Vec::new(alloc);
+    put_gtid(alloc, &mut events, time, gtid)?;
+    put_query(alloc, &mut events, time, schema, b"BEGIN")?;
+    put_map(&mut events, time, bodies.map.as_slice())?;
+    put_rows(&mut events, time, kind, bodies.rows.as_slice())?;
+    put_xid(&mut events, time)?;
+    Ok(events)
 }
