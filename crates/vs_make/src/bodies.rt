@@ -12,6 +12,7 @@ use vs_schema::Schema;
 
 /// The types of rows events.
 pub(crate) const INSERTS: u8 = 30;
+
 pub(crate) const UPDATES: u8 = 31;
 
 /// The body of a table map, and that of a rows event.

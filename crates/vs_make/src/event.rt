@@ -26,7 +26,9 @@ const QUERY: u8 = 2;
 const FORMAT: u8 = 15;
 
 const XID: u8 = 16;
+
 const TABLE_MAP: u8 = 19;
+
 const GTID: u8 = 33;
 
 const PREVIOUS_GTIDS: u8 = 35;

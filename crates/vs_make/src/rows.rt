@@ -4,10 +4,11 @@ use std::alloc::Global;
 use vs_base::{Cell, Change, Column, Image, OutOfMemory, Table};
 
 /// The number that each table has in its transaction: one has one table.
-const TABLE_ID: u64 = 1;
+const TABLE_ID: u64 = 7;
 
 /// The bits of a byte, and the bytes in which so many of the lowest bits are set.
 const BITS: [u8; 8] = [1, 2, 4, 8, 16, 32, 64, 128];
+
 const SET: [u8; 8] = [0, 1, 3, 7, 15, 31, 63, 127];
 
 fn put_packed(out: &mut Vec<u8>, n: usize) -> Result<(), OutOfMemory> {

@@ -162,8 +162,13 @@ fn put_decimal(
     };
     let behind = scale.min(digits.len());
     let point = digits.len() - behind;
-    let before = if scale == 0 { point } else { point.saturating_sub(1) };
-    let front = filled(alloc, &digits[..before], precision.saturating_sub(scale))?;
+    let before = if scale == 0 {
+        point
+    } else {
+        point.saturating_sub(1)
+    };
+    let count = precision.saturating_sub(scale);
+    let front = filled(alloc, &digits[before.saturating_sub(count)..before], count)?;
     let first = front.len() % GROUP;
     let mut bytes = Vec::new(alloc);
     put_groups(&mut bytes, &front.as_slice()[..first])?;
