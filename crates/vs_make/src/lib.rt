@@ -4,6 +4,7 @@
 mod base;
 mod bodies;
 mod event;
+mod journal;
 mod laws;
 mod rows;
 mod same;

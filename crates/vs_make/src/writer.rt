@@ -1,16 +1,19 @@
 //! A writer of logs.
 ghost use Rattle.std.specs.Prelude.{◌≡◌, ◌++◌, IfOk, OnErr, OnOk, map};
 ghost use Rattle.vs_make.specs.Rows.{WritesRows, inserted, transaction_bytes};
+ghost use Rattle.vs_journal.specs.Judgement.{plain_journal};
+ghost use Rattle.vs_make.specs.Journals.{WritesJournal};
 ghost use Rattle.vs_make.specs.Events.{statement_bytes};
 ghost use Rattle.vs_make.specs.Written.{Begins};
 
 use crate::base::base_block;
 use crate::bodies::{Bodies, INSERTS, UPDATES, insert_bodies, update_bodies};
+use crate::journal::journal_bodies;
 use crate::event::{put_base, put_format, put_gtid, put_map, put_query, put_rows, put_xid};
 use std::alloc::Global;
 use std::marker::Model;
 use vs_base::{Change, Gtid, Image, OutOfMemory, Table};
-use vs_gtid::GtidSet;
+use vs_gtid::{GtidSet, JournalValue};
 
 /// What each log begins with.
 const MAGIC: &[u8] = b"\xfebin";
@@ -96,6 +99,24 @@ impl LogWriter {
     {
         let bodies = update_bodies(self.alloc, schema, table, rows)?;
         let events = transaction(self.alloc, &gtid, schema, time, UPDATES, &bodies)?;
+        self.bytes.extend_from_slice(events.as_slice())?;
+        Ok(())
+    }
+
+    /// Writes a transaction that inserts the journal into the table of journals, for shards of the
+    /// keyspace.
+    pub fn journal(
+        &mut self,
+        gtid: Gtid,
+        keyspace: &[u8],
+        j: &JournalValue,
+        time: u32,
+    ) -> Result<(), OutOfMemory>
+        ensures ok { OnOk result (WritesJournal self.old self.new gtid keyspace.now (plain_journal j.now) time) }
+        ensures err { OnErr result (self.new ≡ self.old) }
+    {
+        let bodies = journal_bodies(self.alloc, keyspace, j)?;
+        let events = transaction(self.alloc, &gtid, b"_vt", time, INSERTS, &bodies)?;
         self.bytes.extend_from_slice(events.as_slice())?;
         Ok(())
     }
