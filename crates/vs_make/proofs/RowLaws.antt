@@ -32,6 +32,7 @@ use Rattle.vs_schema.specs.Kinds.{same}
 use Rattle.vs_schema.specs.Rules.{names_table}
 use Rattle.vs_schema.specs.declared.schema.Schema.{Schema}
 use Rattle.vs_make.specs.Events.{event_bytes, gtid_event, gtid_layout, query_event, query_layout}
+use Rattle.vs_make.specs.Journals.{none}
 use Rattle.vs_make.specs.Rows.{ListsTable, TellsChanges, WritesTransactions, begin_text, map_event, only, rows_event, transaction_bytes, xid_event}
 use Rattle.vs_make.specs.Written.{HasRoom, IsLogOf}
 use Rattle.vs_make.proofs.EventLaws.{HasHead, event_head, event_length, gtid_said, is_event, sort_is}
@@ -70,6 +71,27 @@ map_alike keyspace tables table body maps lists h = by_said (map_body body) h
     by_columns said (Some columns) k = by_table said columns (table_by keyspace (only table) said columns) refl k
 
     by_said : (o : Option MapSaid) → with_known [] (map_by keyspace (only table) o) ≡ Ok maps → with_known [] (map_by keyspace tables o) ≡ Ok maps
+    by_said None k = absurd (cc)
+    by_said (Some said) k = by_columns said (typed_columns said.types said.metadata) k
+
+-- a table map that is read under a schema text without tables is read so under each
+journal_alike : (keyspace : List ℕ) (tables : Schema) (said : MapSaid) (columns : _) (mapped : _) → table_by keyspace none said columns ≡ Ok mapped → table_by keyspace tables said columns ≡ Ok mapped
+journal_alike keyspace tables said columns mapped h =
+    same_choice (same said.schema (schema_of keyspace)) (listed none said.table columns None) (listed tables said.table columns (find (names_table said.table) tables.tables)) _ mapped (λ k. absurd (cc)) h
+
+pub journal_known : (keyspace : List ℕ) (body : List ℕ) (maps : Tables) → with_map keyspace none [] body ≡ Ok maps → (tables : Schema) → with_map keyspace tables [] body ≡ Ok maps
+unfolding with_map map_meant
+journal_known keyspace body maps h tables = by_said (map_body body) h
+  where
+    by_table : (said : MapSaid) (columns : _) (r : _) → table_by keyspace none said columns ≡ r → with_known [] (with_id said.id r) ≡ Ok maps → with_known [] (with_id said.id (table_by keyspace tables said columns)) ≡ Ok maps
+    by_table said columns (Ok mapped) e k = ap (λ q. with_known [] (with_id said.id q)) (journal_alike keyspace tables said columns mapped e) ∙ k
+    by_table said columns (Err refusal) e k = absurd (cc)
+
+    by_columns : (said : MapSaid) (o : _) → with_known [] (map_typed keyspace none said o) ≡ Ok maps → with_known [] (map_typed keyspace tables said o) ≡ Ok maps
+    by_columns said None k = absurd (cc)
+    by_columns said (Some columns) k = by_table said columns (table_by keyspace none said columns) refl k
+
+    by_said : (o : Option MapSaid) → with_known [] (map_by keyspace none o) ≡ Ok maps → with_known [] (map_by keyspace tables o) ≡ Ok maps
     by_said None k = absurd (cc)
     by_said (Some said) k = by_columns said (typed_columns said.types said.metadata) k
 

@@ -34,10 +34,11 @@ journal_table = record {
 abbrev pub journal_row : List ℕ → PlainJournal → List Cell
 journal_row keyspace j = Bytes (signed_decimal j.id) ∷ (Bytes (schema_of keyspace) ∷ (Bytes (journal_text j) ∷ []))
 
--- The bodies of a table map and of an event of inserts tell this insert into the table of journals, in the log of a shard of the keyspace.
+-- The bodies of a table map and of an event of inserts tell this insert into the table of journals, in the log of a shard of the
+-- keyspace, whatever tables its schema text lists.
 pub record TellsJournal (keyspace map_body rows_body : List ℕ) (change : Change) : Type 0 where
   pub maps : Tables
-  pub known : with_map keyspace none [] map_body ≡ Ok maps
+  pub known : (tables : Schema) → with_map keyspace tables [] map_body ≡ Ok maps
   pub told : rows_meant maps 30 rows_body ≡ Ok (Journal (change ∷ []))
 
 -- a transaction was appended that inserts the journal alone, for shards of the keyspace

@@ -68,11 +68,7 @@ fn text_cell(alloc: Global, journal: &JournalValue) -> Result<Cell, OutOfMemory>
 }
 
 /// The id, `vt_` and the keyspace, and the text of the journal.
-fn journal_row(
-    alloc: Global,
-    keyspace: &[u8],
-    journal: &JournalValue,
-) -> Result<Image, OutOfMemory>
+fn journal_row(alloc: Global, keyspace: &[u8], journal: &JournalValue) -> Result<Image, OutOfMemory>
     ensures { IfOk result (λ r. r ≡ journal_row keyspace.now (plain_journal journal.now)) }
 {
     let mut row = Image::new(alloc);
@@ -83,6 +79,7 @@ fn journal_row(
 }
 
 /// The bodies, where they tell this insert into the table of journals.
+#[tactic(auto, using(crate::proofs::RowLaws::journal_known))]
 fn telling(
     alloc: Global,
     keyspace: &[u8],

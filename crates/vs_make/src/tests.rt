@@ -3,7 +3,8 @@ use std::alloc::{AllocError, Global};
 use std::process::Abort;
 use vs_base::{Cell, Change, Gtid, Image, OutOfMemory, Table, Text};
 use vs_entries::{Reader, Took};
-use vs_gtid::{GtidSet, Work};
+use vs_gtid::{GtidSet, JournalValue, Work};
+use vs_journal::read_text;
 use vs_schema::Schema;
 
 /// A log of two statements in the shard of keyspace c: the magic, a format description, a base of no
@@ -279,6 +280,47 @@ fn rows_are_laid_out_as_a_binlog_has_them(rt: HostRuntime) {
 #[test]
 fn values_of_each_kind_are_read_again(rt: HostRuntime) {
     assert!(rt; rows_are_read_again(rt.alloc(), ALL_COLUMNS, ALL_ROWS, 0, b"\xfebin"));
+}
+
+/// A journal of the keyspace c.
+const JOURNAL: &[u8] =
+    b"id:7 migration_type:SHARDS shard_gtids:{keyspace:\"c\" shard:\"-40\" gtid:\"MySQL56/00000000-0000-0000-0000-00000000000b:1\"} participants:{keyspace:\"c\" shard:\"-80\"}";
+
+fn log_of_journal(alloc: Global, journal: &JournalValue) -> Result<LogWriter, OutOfMemory> {
+    let Some(gtid) = Gtid::new(UUID, 1) else {
+        return Err(AllocError);
+    };
+    let mut writer = LogWriter::new(alloc, &GtidSet::new(alloc), 9)?;
+    writer.journal(gtid, b"c", journal, 100)?;
+    Ok(writer)
+}
+
+/// Whether the log has an entry without rows in the keyspace d, whose journal it isn't.
+fn is_passed_over(alloc: Global, log: &[u8]) -> bool {
+    let Ok(schema) = Schema::read(alloc, b"") else {
+        return false;
+    };
+    let Ok(mut reader) = Reader::new(alloc, &schema, b"d") else {
+        return false;
+    };
+    reader.feed(log).is_ok() && next_rows(&mut reader) == (1, 100, 0)
+}
+
+/// Whether the journal's text is written as the last bytes before the transaction's end.
+fn journal_is_written(alloc: Global) -> bool {
+    let Ok(journal) = read_text(alloc, JOURNAL) else {
+        return false;
+    };
+    let Ok(writer) = log_of_journal(alloc, &journal) else {
+        return false;
+    };
+    let log = writer.bytes();
+    log[..log.len().saturating_sub(27)].ends_with(JOURNAL) && is_passed_over(alloc, log)
+}
+
+#[test]
+fn a_journal_is_a_row_of_its_table(rt: HostRuntime) {
+    assert!(rt; journal_is_written(rt.alloc()));
 }
 
 #[test]

@@ -8,8 +8,8 @@ ghost use Rattle.vs_make.specs.Written.{Begins};
 
 use crate::base::base_block;
 use crate::bodies::{Bodies, INSERTS, UPDATES, insert_bodies, update_bodies};
-use crate::journal::journal_bodies;
 use crate::event::{put_base, put_format, put_gtid, put_map, put_query, put_rows, put_xid};
+use crate::journal::journal_bodies;
 use std::alloc::Global;
 use std::marker::Model;
 use vs_base::{Change, Gtid, Image, OutOfMemory, Table};
