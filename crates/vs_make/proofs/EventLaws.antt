@@ -1,19 +1,17 @@
 -- What the head and the body of a written event say.
-use Rattle.std.proofs.Common.{◌≡◌, ◌∙◌, ◌++◌, ◌+◌, ◌-◌, ◌%◌, ◌^◌, ◌≤◌, ◌<◌, ◌&&◌, ℕ, zero, suc, Bool, true, false, List, [], ◌∷◌, Option, Some, None, Result, Ok, Err, length, take, drop, get_or, slice_index, refl, ap, sym, subst, append_assoc, arith, cond, length-append}
+use Rattle.std.proofs.Common.{◌≡◌, ◌∙◌, ◌++◌, ◌+◌, ◌-◌, ◌%◌, ◌^◌, ◌≤◌, ◌<◌, ◌&&◌, ℕ, true, false, List, [], ◌∷◌, Some, None, Ok, Err, length, take, drop, get_or, slice_index, refl, ap, sym, arith, cond, length-append}
 use Rattle.std.specs.Prelude.{◌==◌, nat_le, nat_lt, if◌then◌else◌}
 use Rattle.std.proofs.lemmas.Bool.{and_from, eq-eqb, le-leb, le-ltb}
 use Rattle.std.proofs.lemmas.List.{get_or-append-add}
 use Rattle.std.proofs.Math.Nat.{mod-eq_of_lt}
 use Rattle.std.proofs.Math.Seq.{drop-append_seam, drop-append-add, get_or-append_seam, take-append_seam}
 use Rattle.byteorder.specs.Endian.{little_bytes, little_number}
-use Rattle.byteorder.specs.Numbers.{length-bytes_low_first, little_number-reads_back}
+use Rattle.byteorder.specs.Numbers.{little_number-reads_back}
 use Rattle.vs_base.specs.declared.Gtid.{Gtid}
 use Rattle.vs_base.specs.Names.{gtid_of}
 use Rattle.vs_base.proofs.NameLemmas.{gtid_of-is}
-use Rattle.vs_binlog.specs.Bodies.{Said, gtid_body, query_body, said_at}
+use Rattle.vs_binlog.specs.Bodies.{gtid_body, query_body, said_at}
 use Rattle.vs_binlog.specs.Heads.{Event, body_of, flags_of, kind_of, length_of, time_of}
-use Rattle.vs_log.specs.declared.event.Sort.{Sort}
-use Rattle.vs_log.specs.declared.event.Sort.TheVariants.{FormatEvent, GtidEvent, PreviousEvent, QueryEvent}
 use Rattle.vs_log.specs.Events.{IsEvent, sort, sort_of}
 use Rattle.vs_base.specs.declared.Why.TheVariants.{BadEvent, BadGtid}
 use Rattle.vs_log.specs.Table.{format_refusal, gtid_in, or_refused}

@@ -1,29 +1,27 @@
 -- Events of an entry behind a whole log make a whole log with one entry more.
-use Rattle.std.proofs.Common.{◌≡◌, ◌∙◌, ◌++◌, ◌+◌, ◌≤◌, ◌<◌, ◌^◌, ℕ, true, List, [], ◌∷◌, Some, None, Ok, length, refl, ap, sym, subst, inl, inr, append_assoc, append-nil, arith, length-append}
+use Rattle.std.proofs.Common.{◌≡◌, ◌∙◌, ◌++◌, ◌+◌, ◌≤◌, ◌<◌, ◌^◌, ℕ, true, List, [], ◌∷◌, Ok, length, refl, ap, sym, subst, inl, append_assoc, append-nil, arith, length-append}
 use Rattle.std.specs.List.{AllByRecursion, filter}
 use Rattle.std.proofs.lemmas.List.Elements.{filter-append}
 use Rattle.vs_base.specs.declared.Gtid.{Gtid}
-use Rattle.vs_binlog.specs.Heads.{Event, body_of, kind_of, length_of, time_of}
+use Rattle.vs_binlog.specs.Heads.{Event, length_of}
 use Rattle.vs_binlog.specs.Words.{first_word}
 use Rattle.vs_entries.specs.Queries.{said, statement_by, statement_of}
 use Rattle.vs_entries.specs.Rules.{base_of, rules_of}
 use Rattle.vs_gtid.specs.declared.Entry.{Entry}
-use Rattle.vs_gtid.specs.declared.Work.{Work}
 use Rattle.vs_gtid.specs.Joins.{added}
 use Rattle.vs_gtid.specs.Positions.{Position}
 use Rattle.vs_log.specs.Events.{IsEvent, joined, last_place, limit, magic, sort_of}
 use Rattle.byteorder.specs.Endian.{little_bytes}
 use Rattle.std.specs.Prelude.{if◌then◌else◌}
-use Rattle.vs_log.specs.Productions.{counts, AreEntries, IsCut, IsEntry, IsGtid, IsLog, IsNew, IsSingle, IsWholeLog, Says, in_turn, is_counted, total}
-use Rattle.vs_log.specs.Table.{Rules, format_refusal, gtid_in, single_work}
+use Rattle.vs_log.specs.Productions.{counts, AreEntries, IsEntry, IsNew, IsSingle, IsWholeLog, in_turn, is_counted}
+use Rattle.vs_log.specs.Table.{Rules, format_refusal, gtid_in}
 use Rattle.vs_log.specs.declared.event.Sort.TheVariants.{FormatEvent, GtidEvent, PreviousEvent, QueryEvent}
-use Rattle.vs_log.specs.declared.statement.Statement.{Statement}
 use Rattle.vs_log.proofs.Cuts.{joined-append}
 use Rattle.vs_log.proofs.Growth.{whole_log}
 use Rattle.vs_log.proofs.Shapes.{entries_more, in_turn-more}
 use Rattle.vs_schema.specs.declared.schema.Schema.{Schema}
-use Rattle.vs_make.specs.Events.{base_event, event_bytes, format_event, format_layout, gtid_event, gtid_layout, query_event, query_layout, statement_bytes}
-use Rattle.vs_make.specs.Written.{HasRoom, IsLogOf, Begins, WritesBases, WritesStatements, known_behind}
+use Rattle.vs_make.specs.Events.{base_event, format_event, format_layout, gtid_event, gtid_layout, query_event, query_layout, statement_bytes}
+use Rattle.vs_make.specs.Written.{WritesBases, WritesStatements, known_behind}
 use Rattle.vs_make.proofs.EventLaws.{HasHead, event_head, format_said, gtid_said, is_event, query_said, sort_is}
 
 all_both : (P : Event → Type 0) (xs ys : List Event) → AllByRecursion P xs → AllByRecursion P ys → AllByRecursion P (xs ++ ys)

@@ -1,40 +1,35 @@
 -- A transaction of rows behind a whole log is its next entry.
-use Rattle.std.proofs.Common.{◌≡◌, ◌∙◌, ◌++◌, ◌+◌, ◌≤◌, ◌<◌, ◌^◌, ℕ, Bool, true, false, List, [], ◌∷◌, Option, Some, None, Result, Ok, Err, length, map, refl, ap, sym, subst, inl, inr, append_assoc, append-nil, arith, length-append, cond, nat_eq}
-use Rattle.std.specs.Prelude.{◌⊎◌, codes, if◌then◌else◌}
+use Rattle.std.proofs.Common.{◌≡◌, ◌∙◌, ◌++◌, ◌+◌, ◌≤◌, ◌<◌, ◌^◌, ℕ, Bool, true, false, List, [], ◌∷◌, Option, Some, None, Result, Ok, Err, length, map, refl, ap, sym, subst, inl, inr, append_assoc, append-nil, arith, length-append, cond}
+use Rattle.std.specs.Prelude.{◌⊎◌}
 use Rattle.std.specs.List.{AllByRecursion, find}
-use Rattle.std.specs.Cmp.Lexicographic.{pointwise}
 use Rattle.std.proofs.lemmas.Slice.Eq.{bytes_eq-Decides}
 use Rattle.byteorder.specs.Endian.{little_bytes}
-use Rattle.vs_base.specs.declared.change.Change.{Change}
 use Rattle.vs_base.specs.declared.table.Table.{Table}
 use Rattle.vs_base.specs.declared.Gtid.{Gtid}
-use Rattle.vs_binlog.specs.Heads.{Event, body_of, kind_of, length_of, time_of}
+use Rattle.vs_binlog.specs.Heads.{Event, body_of}
 use Rattle.vs_binlog.specs.Words.{first_word}
 use Rattle.vs_entries.specs.Queries.{said}
 use Rattle.vs_entries.specs.Rules.{counted_by, or_why, rules_of}
 use Rattle.vs_gtid.specs.declared.Entry.{Entry}
 use Rattle.vs_gtid.specs.declared.Work.TheVariants.{Rows}
-use Rattle.vs_gtid.specs.Positions.{Position}
-use Rattle.vs_log.specs.Events.{joined, last_place, limit, sort, sort_of}
+use Rattle.vs_log.specs.Events.{joined, limit, sort, sort_of}
 use Rattle.vs_log.specs.Productions.{IsEntry, IsTransaction, IsUnended, IsWholeLog, counts, is_counted}
 use Rattle.vs_log.specs.States.Counted.{Changed}
 use Rattle.vs_log.specs.Table.{gtid_in}
 use Rattle.vs_log.specs.declared.event.Sort.TheVariants.{GtidEvent, MapEvent, QueryEvent, RowsEvent, XidEvent}
 use Rattle.vs_log.specs.declared.statement.Statement.TheVariants.{Begin}
 use Rattle.vs_log.proofs.Growth.{whole_log}
-use Rattle.vs_rows.specs.declared.refusal.RowRefusal.{RowRefusal}
-use Rattle.vs_rows.specs.declared.refusal.RowRefusal.TheVariants.{UnknownTable}
 use Rattle.vs_rows.specs.Columns.{typed_columns}
 use Rattle.vs_rows.specs.Layouts.{MapSaid, map_body}
 use Rattle.vs_rows.specs.Rows.{rows_meant}
-use Rattle.vs_rows.specs.Tables.{Tables, is_journal, listed, map_by, map_meant, map_typed, schema_of, table_by, with_id, with_known, with_map}
+use Rattle.vs_rows.specs.Tables.{Tables, listed, map_by, map_meant, map_typed, schema_of, table_by, with_id, with_known, with_map}
 use Rattle.vs_schema.specs.Kinds.{same}
 use Rattle.vs_schema.specs.Rules.{names_table}
 use Rattle.vs_schema.specs.declared.schema.Schema.{Schema}
-use Rattle.vs_make.specs.Events.{event_bytes, gtid_event, gtid_layout, query_event, query_layout}
+use Rattle.vs_make.specs.Events.{gtid_event, gtid_layout, query_event, query_layout}
 use Rattle.vs_make.specs.Journals.{none}
-use Rattle.vs_make.specs.Rows.{ListsTable, TellsChanges, WritesTransactions, begin_text, map_event, only, rows_event, transaction_bytes, xid_event}
-use Rattle.vs_make.specs.Written.{HasRoom, IsLogOf}
+use Rattle.vs_make.specs.Rows.{ListsTable, WritesTransactions, begin_text, map_event, only, rows_event, transaction_bytes, xid_event}
+use Rattle.vs_make.specs.Written.{HasRoom}
 use Rattle.vs_make.proofs.EventLaws.{HasHead, event_head, event_length, gtid_said, is_event, sort_is}
 use Rattle.vs_make.proofs.LogLaws.{IsGood, gtid_length, one_more, query_length, statement_known}
 

@@ -1,5 +1,5 @@
 -- The events of a log, as MySQL lays them out in a binlog of version 4. Numbers have the lowest byte first.
-use Rattle.std.specs.Prelude.{ℕ, ◌+◌, ◌%◌, ◌^◌, List, [], ◌∷◌, ◌++◌, length, replicate}
+use Rattle.std.specs.Prelude.{ℕ, ◌+◌, ◌%◌, ◌^◌, List, ◌∷◌, ◌++◌, length, replicate}
 use Rattle.byteorder.specs.Endian.{little_bytes}
 use Rattle.vs_base.specs.declared.Gtid.{Gtid}
 use Rattle.vs_log.specs.Events.{magic}

@@ -1,5 +1,5 @@
 -- The rows of a transaction that is written.
-use Rattle.std.specs.Prelude.{◌≡◌, ◌⊎◌, ◌≤◌, ◌<◌, ◌^◌, ℕ, ◌+◌, List, [], ◌∷◌, ◌++◌, codes, length, map, Option, Some, None, Ok}
+use Rattle.std.specs.Prelude.{◌≡◌, ◌⊎◌, ◌≤◌, ◌<◌, ◌^◌, ℕ, ◌+◌, List, [], ◌∷◌, ◌++◌, codes, length, Some, None, Ok}
 use Rattle.std.specs.List.{find}
 use Rattle.byteorder.specs.Endian.{little_bytes}
 use Rattle.vs_base.specs.declared.cell.Cell.{Cell}

@@ -1,4 +1,4 @@
-use Rattle.std.proofs.Common.{◌≡◌, ◌∙◌, ◌++◌, ◌∷◌, [], ap}
+use Rattle.std.proofs.Common.{◌∙◌, ◌++◌, ◌∷◌, ap}
 use Rattle.byteorder.specs.Endian.{little_bytes}
 use Rattle.vs_make.proofs.ListLemmas.{four_appended}
 use Rattle.vs_make.proofs.event.put_head.Goals as goal
