@@ -7,3 +7,12 @@ pub mod AcceptLaws
 pub mod FindLaws
 pub mod JournalLaws
 pub mod TextLaws
+pub mod GapLaws
+pub mod RunLaws
+pub mod EscapeLaws
+pub mod TokenLaws
+pub mod CutTexts
+pub mod GatherLaws
+pub mod SpellTexts
+pub mod WrittenLaws
+pub mod FrontLaws

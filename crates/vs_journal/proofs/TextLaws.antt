@@ -1,8 +1,9 @@
 -- A text says a journal exactly where its tokens are one, and none from the first token with which none goes on.
-use Rattle.std.proofs.Common.{◌≡◌, ◌∙◌, ◌++◌, ◌<◌, ◌≤◌, ℕ, zero, suc, true, List, [], ◌∷◌, Option, Some, None, Result, Ok, Err, length, refl, ap, sym, arith, cond, append-nil, false, subst}
+use Rattle.std.proofs.Common.{◌≡◌, ◌∙◌, ◌++◌, ◌<◌, ◌≤◌, ◌-◌, inl, inr, ℕ, zero, suc, true, List, [], ◌∷◌, Option, Some, None, Result, Ok, Err, length, refl, ap, sym, arith, cond, append-nil, false, subst}
 use Rattle.std.specs.Option.{option_and_then}
+use Rattle.std.specs.Prelude.{◌⊎◌}
 use Rattle.vs_journal.specs.Grammar.{first_state, journal_at, parsed_journal, state_behind, with_member, whole_journal}
-use Rattle.vs_journal.specs.Productions.{BeginsWithTokens, IsJournalText, IsNoJournalFrom, JournalsAreProductions, place_in_text}
+use Rattle.vs_journal.specs.Productions.{IsJournal, EndsEarly, GoesOnRightly, GoesOnWithNoString, GoesOnWithNoToken, GoesOnWrongly, IsJournalText, IsNoJournalFrom, JournalsAreProductions}
 use Rattle.vs_journal.specs.Tokens.{NextToken, next_token}
 use Rattle.vs_journal.specs.declared.token.Bracket.{Bracket}
 use Rattle.vs_journal.specs.declared.token.Bracket.TheVariants.{Curly}
@@ -19,62 +20,62 @@ use Rattle.vs_journal.specs.declared.state.TextState.{TextState}
 use Rattle.vs_journal.proofs.AcceptLaws.{accept, at, same_brackets, open_member}
 use Rattle.vs_journal.specs.Grammar.{no_member}
 use Rattle.vs_journal.proofs.JournalLaws.{journal_found, journal_taken}
+use Rattle.vs_journal.proofs.CutTexts.{BeginsWithTokens, cut_is_spelled, found_as, place_in_text, reached, spelled_is_cut}
+use Rattle.vs_journal.specs.Spellings.{SpellsTokens}
+use Rattle.vs_journal.proofs.FrontLaws.{IsWritable, IsWritten, closing, colon, comma, letter, list_end, no_bytes, none_written, one_more_written, opening, spelled_more, tokens_front, zero_number}
+use Rattle.vs_journal.proofs.TokenLaws.{NextFound, none_taken}
 use Rattle.vs_journal.proofs.ReadLemmas.{leaves_less, meant-ended, meant-more, meant-stopped, meant_from}
 
 -- ---- each state can go on
 
 abbrev CanEnd : TextState → Type 0
-CanEnd s = (more : List Token) × (j : ParsedJournal) × (accept s more ≡ Some j)
+CanEnd s = (more : List Token) × (j : ParsedJournal) × (accept s more ≡ Some j) × IsWritten more
 
 ends_from_name : (j : ParsedJournal) (c : Option OpenMember) (p : List Bracket) → CanEnd (at j c p Name)
-ends_from_name j None [] = ([], j, refl)
+ends_from_name j None [] = ([], j, refl, none_written)
 ends_from_name j (Some o) [] =
-    (token.Close o.bracket ∷ [], with_member o.role o.member j, ap (λ v. option_and_then (λ u. accept u []) (cond v (Some (at (with_member o.role o.member j) None [] Behind)) None)) (same_brackets o.bracket))
+    (token.Close o.bracket ∷ [], with_member o.role o.member j, ap (λ v. option_and_then (λ u. accept u []) (cond v (Some (at (with_member o.role o.member j) None [] Behind)) None)) (same_brackets o.bracket), one_more_written (token.Close o.bracket) [] (closing o.bracket) none_written)
 ends_from_name j c (b ∷ p) =
     let later = ends_from_name j c p in
-    (token.Close b ∷ token.Comma ∷ later.0, later.1, ap (λ v. option_and_then (λ u. accept u (token.Comma ∷ later.0)) (cond v (Some (at j c p Behind)) None)) (same_brackets b) ∙ later.2)
+    (token.Close b ∷ token.Comma ∷ later.0, later.1, ap (λ v. option_and_then (λ u. accept u (token.Comma ∷ later.0)) (cond v (Some (at j c p Behind)) None)) (same_brackets b) ∙ later.2, one_more_written (token.Close b) (token.Comma ∷ later.0) (closing b) (one_more_written token.Comma later.0 comma later.3))
 
-abbrev behind_it : (t : Token) (s u : TextState) → state_behind s t ≡ Some u → CanEnd u → CanEnd s
-behind_it t s u h later = (t ∷ later.0, later.1, ap (option_and_then (λ v. accept v later.0)) h ∙ later.2)
+behind_it : (t : Token) (s u : TextState) → IsWritable t → state_behind s t ≡ Some u → CanEnd u → CanEnd s
+behind_it t s u w h later = (t ∷ later.0, later.1, ap (option_and_then (λ v. accept v later.0)) h ∙ later.2, one_more_written t later.0 w later.3)
 
 ends_from_behind : (j : ParsedJournal) (c : Option OpenMember) (p : List Bracket) → CanEnd (at j c p Behind)
-ends_from_behind j c p = behind_it token.Comma (at j c p Behind) (at j c p Name) refl (ends_from_name j c p)
+ends_from_behind j c p = behind_it token.Comma (at j c p Behind) (at j c p Name) comma refl (ends_from_name j c p)
 
 ends_from_text : (f : FieldName) (j : ParsedJournal) (c : Option OpenMember) (p : List Bracket) → CanEnd (at j c p (BehindText f))
-ends_from_text f j c p = behind_it token.Comma (at j c p (BehindText f)) (at j c p Name) refl (ends_from_name j c p)
+ends_from_text f j c p = behind_it token.Comma (at j c p (BehindText f)) (at j c p Name) comma refl (ends_from_name j c p)
 
 ends_from_value : (f : FieldName) (j : ParsedJournal) (c : Option OpenMember) (p : List Bracket) → CanEnd (at j c p (Value f))
-ends_from_value field.Id j c p = behind_it (token.Number true (Some 0)) (at j c p (Value field.Id)) _ refl (ends_from_behind _ c p)
-ends_from_value field.MigrationType j c p = behind_it (token.Number false (Some 0)) (at j c p (Value field.MigrationType)) _ refl (ends_from_behind _ c p)
-ends_from_value field.ShardGtids j c p = behind_it (token.Open Curly) (at j c p (Value field.ShardGtids)) (at j (Some (open_member role.Successor Curly no_member)) p Name) refl (ends_from_name j (Some (open_member role.Successor Curly no_member)) p)
-ends_from_value field.Participants j c p = behind_it (token.Open Curly) (at j c p (Value field.Participants)) (at j (Some (open_member role.Participant Curly no_member)) p Name) refl (ends_from_name j (Some (open_member role.Participant Curly no_member)) p)
-ends_from_value field.Keyspace j c p = behind_it (token.Bytes []) (at j c p (Value field.Keyspace)) _ refl (ends_from_text field.Keyspace j _ p)
-ends_from_value field.Shard j c p = behind_it (token.Bytes []) (at j c p (Value field.Shard)) _ refl (ends_from_text field.Shard j _ p)
-ends_from_value field.Gtid j c p = behind_it (token.Bytes []) (at j c p (Value field.Gtid)) _ refl (ends_from_text field.Gtid j _ p)
-ends_from_value field.Unknown j c p = behind_it (token.Word []) (at j c p (Value field.Unknown)) _ refl (ends_from_behind j c p)
+ends_from_value field.Id j c p = behind_it (token.Number true (Some 0)) (at j c p (Value field.Id)) _ (zero_number true) refl (ends_from_behind _ c p)
+ends_from_value field.MigrationType j c p = behind_it (token.Number false (Some 0)) (at j c p (Value field.MigrationType)) _ (zero_number false) refl (ends_from_behind _ c p)
+ends_from_value field.ShardGtids j c p = behind_it (token.Open Curly) (at j c p (Value field.ShardGtids)) (at j (Some (open_member role.Successor Curly no_member)) p Name) opening refl (ends_from_name j (Some (open_member role.Successor Curly no_member)) p)
+ends_from_value field.Participants j c p = behind_it (token.Open Curly) (at j c p (Value field.Participants)) (at j (Some (open_member role.Participant Curly no_member)) p Name) opening refl (ends_from_name j (Some (open_member role.Participant Curly no_member)) p)
+ends_from_value field.Keyspace j c p = behind_it (token.Bytes []) (at j c p (Value field.Keyspace)) _ no_bytes refl (ends_from_text field.Keyspace j _ p)
+ends_from_value field.Shard j c p = behind_it (token.Bytes []) (at j c p (Value field.Shard)) _ no_bytes refl (ends_from_text field.Shard j _ p)
+ends_from_value field.Gtid j c p = behind_it (token.Bytes []) (at j c p (Value field.Gtid)) _ no_bytes refl (ends_from_text field.Gtid j _ p)
+ends_from_value field.Unknown j c p = behind_it (token.Word (0x61 ∷ [])) (at j c p (Value field.Unknown)) _ letter refl (ends_from_behind j c p)
 
 ends_from_item : (j : ParsedJournal) (c : Option OpenMember) (p : List Bracket) → CanEnd (at j c p BehindItem)
-ends_from_item j c p = behind_it token.CloseList (at j c p BehindItem) _ refl (ends_from_behind j c p)
+ends_from_item j c p = behind_it token.CloseList (at j c p BehindItem) _ list_end refl (ends_from_behind j c p)
 
 ends_from : (a : Awaits) (j : ParsedJournal) (c : Option OpenMember) (p : List Bracket) → CanEnd (at j c p a)
 ends_from Name j c p = ends_from_name j c p
 ends_from Behind j c p = ends_from_behind j c p
 ends_from (BehindText f) j c p = ends_from_text f j c p
-ends_from (BehindName f) j c p = behind_it token.Colon (at j c p (BehindName f)) (at j c p (Value f)) refl (ends_from_value f j c p)
+ends_from (BehindName f) j c p = behind_it token.Colon (at j c p (BehindName f)) (at j c p (Value f)) colon refl (ends_from_value f j c p)
 ends_from (Value f) j c p = ends_from_value f j c p
-ends_from FirstItem j c p = behind_it token.CloseList (at j c p FirstItem) _ refl (ends_from_behind j c p)
-ends_from Item j c p = behind_it (token.Word []) (at j c p Item) _ refl (ends_from_item j c p)
+ends_from FirstItem j c p = behind_it token.CloseList (at j c p FirstItem) _ list_end refl (ends_from_behind j c p)
+ends_from Item j c p = behind_it (token.Word (0x61 ∷ [])) (at j c p Item) _ letter refl (ends_from_item j c p)
 ends_from BehindItem j c p = ends_from_item j c p
-ends_from BehindItemText j c p = behind_it token.CloseList (at j c p BehindItemText) _ refl (ends_from_behind j c p)
+ends_from BehindItemText j c p = behind_it token.CloseList (at j c p BehindItemText) _ list_end refl (ends_from_behind j c p)
 
 can_end : (s : TextState) → CanEnd s
 can_end s = ends_from s.awaits s.journal s.current s.passed
 
 -- ---- from a text to its tokens
-
-abbrev reached : TextState → List Token → Option TextState
-reached s [] = Some s
-reached s (t ∷ ts) = option_and_then (λ u. reached u ts) (state_behind s t)
 
 accept_on : (o : Option TextState) (ts more : List Token) (u : TextState) → ((s : TextState) → reached s ts ≡ Some u → accept s (ts ++ more) ≡ accept u more) → option_and_then (λ s. reached s ts) o ≡ Some u → option_and_then (λ s. accept s (ts ++ more)) o ≡ accept u more
 accept_on None ts more u later h = absurd (cc)
@@ -134,17 +135,67 @@ tokens_run (t ∷ ts) size text rest s n j few b none h =
 
 -- ---- the law
 
+-- what is accepted ends in some state
+abbrev Ended : TextState → List Token → Type 0
+Ended s ts = (u : TextState) × (reached s ts ≡ Some u)
+
+ended_by : (ts : List Token) (s : TextState) (j : ParsedJournal) → accept s ts ≡ Some j → Ended s ts
+ended_by [] s j h = (s, refl)
+ended_by (t ∷ ts) s j h = go (state_behind s t) refl h (λ v k. ended_by ts v j k)
+  where
+    go : (o : Option TextState) → state_behind s t ≡ o → option_and_then (λ v. accept v ts) o ≡ Some j → ((v : TextState) → accept v ts ≡ Some j → Ended v ts) → Ended s (t ∷ ts)
+    go None e k later = absurd (cc)
+    go (Some v) e k later = (let end = later v k in (end.0, ap (option_and_then (λ w. reached w ts)) e ∙ end.1))
+
 said_so : (text : List ℕ) (j : ParsedJournal) (r : Result ParsedJournal ℕ) → r ≡ Ok j → Runs first_state (length text) text r → IsJournalText text j
-said_so text j (Ok k) e h = let same : k ≡ j = cc in (h.0, h.1, h.2, h.3, journal_found h.0 j (h.4 ∙ ap Some same))
+said_so text j (Ok k) e h =
+    let same : k ≡ j = cc in
+    let end = ended_by h.0 first_state k h.4 in
+    (h.0, (h.1, cut_is_spelled h.0 first_state end.0 text h.1 h.2 end.1, found_as h.1 None h.3), journal_found h.0 j (h.4 ∙ ap Some same))
 said_so text j (Err spot) e h = absurd (cc)
 
-blocked : (u : TextState) (next : NextToken) (o : Option NextToken) → o ≡ Some next → Blocks u o → state_behind u next.1.0 ≡ None
-blocked u next None e h = absurd (cc)
-blocked u next (Some other) e h = let same : other ≡ next = cc in ap (λ (m : NextToken). state_behind u m.1.0) (sym same) ∙ h
+-- what is wrong behind the tokens that fit
+abbrev Stops : List Token → List ℕ → ℕ → ℕ → Type 0
+Stops before rest size spot = EndsEarly before rest size spot ⊎ (GoesOnWrongly before rest size spot ⊎ (GoesOnWithNoToken rest size spot ⊎ GoesOnWithNoString rest size spot))
 
-blocked_end : (u : TextState) (o : Option NextToken) → o ≡ None → Blocks u o → journal_at u ≡ None
-blocked_end u None e h = h
-blocked_end u (Some other) e h = absurd (cc)
+stops_at : (ts : List Token) (rest : List ℕ) (size left : ℕ) (t : Token) (behind : List ℕ) → NextFound rest (Some (left, (t, behind))) → ((more : List Token) (j : ParsedJournal) → IsJournal (ts ++ t ∷ more) j → ⊥) → Stops ts rest size (size - left)
+stops_at ts rest size left token.Wrong behind found misfit = inr (inr (inl (found.0, found.1, found.2, found.3, found.4.0, ap (λ n. size - n) found.4.1)))
+stops_at ts rest size left (token.Faulty place) behind found misfit = inr (inr (inr (found.0, found.1, left, found.2, found.3, found.4, refl)))
+stops_at ts rest size left (token.Word w) behind found misfit = inr (inl (found.0, found.1, behind, token.Word w, found.2, found.3, found.4.0, misfit, ap (λ n. size - n) found.4.1))
+stops_at ts rest size left (token.Number n m) behind found misfit = inr (inl (found.0, found.1, behind, token.Number n m, found.2, found.3, found.4.0, misfit, ap (λ n. size - n) found.4.1))
+stops_at ts rest size left (token.Bytes b) behind found misfit = inr (inl (found.0, found.1, behind, token.Bytes b, found.2, found.3, found.4.0, misfit, ap (λ n. size - n) found.4.1))
+stops_at ts rest size left token.Colon behind found misfit = inr (inl (found.0, found.1, behind, token.Colon, found.2, found.3, found.4.0, misfit, ap (λ n. size - n) found.4.1))
+stops_at ts rest size left token.Comma behind found misfit = inr (inl (found.0, found.1, behind, token.Comma, found.2, found.3, found.4.0, misfit, ap (λ n. size - n) found.4.1))
+stops_at ts rest size left token.Semicolon behind found misfit = inr (inl (found.0, found.1, behind, token.Semicolon, found.2, found.3, found.4.0, misfit, ap (λ n. size - n) found.4.1))
+stops_at ts rest size left token.OpenList behind found misfit = inr (inl (found.0, found.1, behind, token.OpenList, found.2, found.3, found.4.0, misfit, ap (λ n. size - n) found.4.1))
+stops_at ts rest size left token.CloseList behind found misfit = inr (inl (found.0, found.1, behind, token.CloseList, found.2, found.3, found.4.0, misfit, ap (λ n. size - n) found.4.1))
+stops_at ts rest size left (token.Open b) behind found misfit = inr (inl (found.0, found.1, behind, token.Open b, found.2, found.3, found.4.0, misfit, ap (λ n. size - n) found.4.1))
+stops_at ts rest size left (token.Close b) behind found misfit = inr (inl (found.0, found.1, behind, token.Close b, found.2, found.3, found.4.0, misfit, ap (λ n. size - n) found.4.1))
+
+-- no journal has these tokens and one that the state behind them doesn't take; nor they alone, where the state is no end
+misfits : (ts : List Token) (u : TextState) (t : Token) → reached first_state ts ≡ Some u → state_behind u t ≡ None → (more : List Token) (j : ParsedJournal) → IsJournal (ts ++ t ∷ more) j → ⊥
+misfits ts u t r stuck more j is =
+    let taken = sym (journal_taken (ts ++ t ∷ more) j is) ∙ accept_behind ts (t ∷ more) first_state u r in
+    let none = ap (option_and_then (λ v. accept v more)) stuck in
+    let clash : Some j ≡ None = taken ∙ none in
+    absurd (cc)
+
+no_end : (ts : List Token) (u : TextState) → reached first_state ts ≡ Some u → journal_at u ≡ None → (j : ParsedJournal) → IsJournal ts j → ⊥
+no_end ts u r stuck j is =
+    let whole = sym (journal_taken ts j is) ∙ ap (accept first_state) (sym (append-nil ts)) ∙ accept_behind ts [] first_state u r in
+    let clash : Some j ≡ None = whole ∙ stuck in
+    absurd (cc)
+
+stopped : (ts : List Token) (u : TextState) (rest : List ℕ) (size : ℕ) (o : Option NextToken) → reached first_state ts ≡ Some u → NextFound rest o → Blocks u o → Stops ts rest size (place_in_text size o)
+stopped ts u rest size None r found blocks = inl (found, no_end ts u r blocks, refl)
+stopped ts u rest size (Some next) r found blocks = stops_at ts rest size next.0 next.1.0 next.1.1 found (misfits ts u next.1.0 r blocks)
+
+-- what is written behind the tokens makes a journal's text of them
+goes_on : (ts more : List Token) (text rest : List ℕ) (j : ParsedJournal) → SpellsTokens text ts rest → IsWritten more → IsJournal (ts ++ more) j → GoesOnRightly text rest
+goes_on ts more text rest j begins written is =
+    let front = tokens_front ts text rest begins in
+    let spelled = spelled_more ts more (front.0 ++ written.0) written.0 [] (front.2 written.0 written.1) written.2 in
+    (front.0, written.0, j, front.1, (ts ++ more, ([], spelled, inl ([], refl)), is))
 
 none_so : (text : List ℕ) (spot : ℕ) (r : Result ParsedJournal ℕ) → r ≡ Err spot → Runs first_state (length text) text r → IsNoJournalFrom text spot
 none_so text spot (Ok j) e h = absurd (cc)
@@ -153,24 +204,18 @@ none_so text spot (Err place) e h =
     let ts = h.0 in
     let u = h.2 in
     let on = can_end u in
+    let begins = cut_is_spelled ts first_state u text h.1 h.3 h.4 in
     record {
       before = ts;
       rest = h.1;
-      begins = h.3;
-      goes_on = (on.0, on.1, journal_found (ts ++ on.0) on.1 (accept_behind ts on.0 first_state u h.4 ∙ on.2));
-      stops = λ next next_is more j is.
-          let taken = sym (journal_taken (ts ++ next.1.0 ∷ more) j is) ∙ accept_behind ts (next.1.0 ∷ more) first_state u h.4 in
-          let none = ap (option_and_then (λ v. accept v more)) (blocked u next h.5 (sym h.6 ∙ next_is) h.7) in
-          let clash : Some j ≡ None = taken ∙ none in cc;
-      none = λ none_is j is.
-          let whole = sym (journal_taken ts j is) ∙ ap (accept first_state) (sym (append-nil ts)) ∙ accept_behind ts [] first_state u h.4 in
-          let clash : Some j ≡ None = whole ∙ blocked_end u h.5 (sym h.6 ∙ none_is) h.7 in cc;
-      place = sym same ∙ h.8 ∙ ap (place_in_text (length text)) (sym h.6);
+      begins = begins;
+      goes_on = goes_on ts on.0 text h.1 on.1 begins on.3 (journal_found (ts ++ on.0) on.1 (accept_behind ts on.0 first_state u h.4 ∙ on.2));
+      stops = subst (Stops ts h.1 (length text)) (sym h.8 ∙ same) (stopped ts u h.1 (length text) h.5 h.4 (found_as h.1 h.5 h.6) h.7);
     }
 
 pub journals_are_productions : JournalsAreProductions
 journals_are_productions = record {
   some = λ text j e. said_so text j (parsed_journal text) e (text_runs text);
-  all = λ text j h. tokens_run h.0 (length text) text h.1 first_state (length text) j (omega arith) h.2 h.3 (journal_taken h.0 j h.4);
+  all = λ text j h. tokens_run h.0 (length text) text h.1.0 first_state (length text) j (omega arith) (spelled_is_cut h.0 text h.1.0 h.1.1) (none_taken h.1.0 h.1.2) (journal_taken h.0 j h.2);
   place = λ text spot e. none_so text spot (parsed_journal text) e (text_runs text);
 }

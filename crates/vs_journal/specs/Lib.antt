@@ -7,3 +7,5 @@ pub mod NameOrder
 pub mod Refusals
 pub mod Texts
 pub mod Productions
+pub mod Spellings
+pub mod Written

@@ -1,8 +1,8 @@
--- Journal texts by productions: which tokens in a row are a journal, and what they say.
+-- Journal texts by productions: which tokens in a row are a journal, and what they say; and which texts are spelled so.
 use Rattle.std.specs.Prelude.{◌≡◌, ◌-◌, ◌⊎◌, ℕ, zero, suc, Bool, true, false, List, [], ◌∷◌, ◌++◌, length, map, Option, Some, None, Ok, Err, ℤ}
 use Rattle.std.specs.List.{concat}
 use Rattle.vs_journal.specs.Grammar.{id_of, journal_field, kind_named, kind_numbered, member_field, no_journal, no_member, parsed_journal, set_text, with_member}
-use Rattle.vs_journal.specs.Tokens.{NextToken, next_token}
+use Rattle.vs_journal.specs.Spellings.{HasNoString, HasNoToken, IsGap, IsLastGap, IsTokenAt, SpellsTokens}
 use Rattle.vs_journal.specs.declared.token.Bracket.{Bracket}
 use Rattle.vs_journal.specs.declared.token.Token.{Token}
 use Rattle.vs_journal.specs.declared.token.Token.TheVariants as token
@@ -129,28 +129,43 @@ IsJournal ts j = (settings : List JournalSetting) × AreFields IsJournalField ts
 
 -- ---- texts
 
--- the text begins with these tokens, and this is left
-abbrev pub BeginsWithTokens : List ℕ → List Token → List ℕ → Type 0
-BeginsWithTokens text [] rest = text ≡ rest
-BeginsWithTokens text (t ∷ ts) rest = (left : ℕ) × (behind : List ℕ) × (next_token text ≡ Some (left, (t, behind))) × BeginsWithTokens behind ts rest
+-- tokens one behind the other, each behind a gap, and a last gap
+abbrev pub IsSpelled : List ℕ → List Token → Type 0
+IsSpelled text ts = (rest : List ℕ) × SpellsTokens text ts rest × IsLastGap rest
 
 abbrev pub IsJournalText : List ℕ → ParsedJournal → Type 0
-IsJournalText text j = (ts : List Token) × (rest : List ℕ) × BeginsWithTokens text ts rest × (next_token rest ≡ None) × IsJournal ts j
+IsJournalText text j = (ts : List Token) × IsSpelled text ts × IsJournal ts j
 
--- the place in a text of so many bytes at which the next token stands, or the text ends
-abbrev pub place_in_text : ℕ → Option NextToken → ℕ
-place_in_text size None = size
-place_in_text size (Some next) = size - next.0
+-- what stands before the rest is the front of a journal's text
+abbrev pub GoesOnRightly : List ℕ → List ℕ → Type 0
+GoesOnRightly text rest = (front more : List ℕ) × (j : ParsedJournal) × (text ≡ front ++ rest) × IsJournalText (front ++ more) j
 
--- Some journal goes on behind the tokens before the place; and none with the token there, or the text ends there and says none.
+-- behind these tokens the text ends, at this place, and they say no journal
+abbrev pub EndsEarly : List Token → List ℕ → ℕ → ℕ → Type 0
+EndsEarly before rest size at = IsLastGap rest × ((j : ParsedJournal) → IsJournal before j → ⊥) × (at ≡ size)
+
+-- behind them stands a token, at this place, with which no journal goes on
+abbrev pub GoesOnWrongly : List Token → List ℕ → ℕ → ℕ → Type 0
+GoesOnWrongly before rest size at =
+    (gap here behind : List ℕ) × (t : Token) × (rest ≡ gap ++ here) × IsGap gap × IsTokenAt here t behind
+    × ((more : List Token) (j : ParsedJournal) → IsJournal (before ++ t ∷ more) j → ⊥) × (at ≡ size - length here)
+
+-- behind them stands what no token begins, at this place
+abbrev pub GoesOnWithNoToken : List ℕ → ℕ → ℕ → Type 0
+GoesOnWithNoToken rest size at = (gap here : List ℕ) × (rest ≡ gap ++ here) × IsGap gap × HasNoToken here × (at ≡ size - length here)
+
+-- behind them begins a string that goes wrong at this place
+abbrev pub GoesOnWithNoString : List ℕ → ℕ → ℕ → Type 0
+GoesOnWithNoString rest size at = (gap here : List ℕ) × (left : ℕ) × (rest ≡ gap ++ here) × IsGap gap × HasNoString here left × (at ≡ size - left)
+
+-- No journal's text goes on as this one does from a place on, and one goes on from what stands before it.
 pub record IsNoJournalFrom (text : List ℕ) (at : ℕ) : Type 0 where
+  -- the tokens before the place
   pub before : List Token
   pub rest : List ℕ
-  pub begins : BeginsWithTokens text before rest
-  pub goes_on : (more : List Token) × (j : ParsedJournal) × IsJournal (before ++ more) j
-  pub stops : (next : NextToken) → next_token rest ≡ Some next → (more : List Token) (j : ParsedJournal) → IsJournal (before ++ next.1.0 ∷ more) j → ⊥
-  pub none : next_token rest ≡ None → (j : ParsedJournal) → IsJournal before j → ⊥
-  pub place : at ≡ place_in_text (length text) (next_token rest)
+  pub begins : SpellsTokens text before rest
+  pub goes_on : GoesOnRightly text rest
+  pub stops : EndsEarly before rest (length text) at ⊎ (GoesOnWrongly before rest (length text) at ⊎ (GoesOnWithNoToken rest (length text) at ⊎ GoesOnWithNoString rest (length text) at))
 
 -- a text is a journal's, or none from a place on, as it is read
 pub record JournalsAreProductions : Type 0 where

@@ -2,6 +2,7 @@
 ghost use Rattle.vs_gtid.specs.declared.journal.JournalValue.{JournalValue};
 ghost use Rattle.vs_journal.specs.Journals.{HasFewNames, StandOnce, participant_names, successor_names};
 ghost use Rattle.vs_journal.specs.Productions.{JournalsAreProductions};
+ghost use Rattle.vs_journal.specs.Written.{WrittenIsRead};
 
 /// A journal names each participant, and each successor, at one place alone.
 pub fn law_names()
@@ -14,8 +15,13 @@ pub fn law_few_names()
     ensures { (j : JournalValue) → HasFewNames j }
 {}
 
-/// A text is read as a journal exactly where the productions say that it is one, and is refused at the
-/// first place from which no journal goes on.
+/// A text is read as a journal exactly where the productions say that it is one, byte by byte, and is
+/// refused at the first place from which no journal goes on.
 pub fn law_journal_texts()
     ensures { JournalsAreProductions }
+{}
+
+/// What `write_text` writes of a journal that some text says is read as an equal journal.
+pub fn law_written()
+    ensures { WrittenIsRead }
 {}

@@ -18,7 +18,7 @@ mod tests;
 mod token;
 mod write;
 
-pub use laws::{law_few_names, law_journal_texts, law_names};
+pub use laws::{law_few_names, law_journal_texts, law_names, law_written};
 pub use read::read_text;
 pub use refusal::JournalRefusal;
 pub use vs_gtid::{Entry, JournalValue, Successor, Work};

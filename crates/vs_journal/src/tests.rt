@@ -1,6 +1,6 @@
 use crate::{
     Entry, JournalRefusal, JournalValue, Work, law_few_names, law_journal_texts, law_names,
-    read_text, write_text,
+    law_written, read_text, write_text,
 };
 use std::alloc::Global;
 use std::process::Abort;
@@ -279,4 +279,5 @@ fn laws_can_be_called() {
     law_names();
     law_few_names();
     law_journal_texts();
+    law_written();
 }

@@ -1,0 +1,4 @@
+pub mod EventLaws
+pub mod LogLaws
+pub mod ListLemmas
+pub mod RowLaws
