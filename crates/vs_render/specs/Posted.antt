@@ -1,6 +1,7 @@
 -- What the pieces of a lane say, and which pieces a lane of a shard may post from a place.
 use Rattle.std.specs.Prelude.{◌≡◌, ◌≢◌, ℕ, List, [], ◌∷◌, Option, Some, None, IsFalse}
 use Rattle.vs_base.specs.declared.ShardName.{ShardName}
+use Rattle.vs_base.specs.declared.table.Column.{Column}
 use Rattle.vs_gtid.specs.declared.JournalValue.{JournalValue}
 use Rattle.vs_gtid.specs.declared.Entry.{Entry}
 use Rattle.vs_gtid.specs.Vectors.{Place}
@@ -8,7 +9,9 @@ use Rattle.vs_model.specs.Logs.{Cluster, Image, journal_of, log_of}
 use Rattle.vs_model.specs.Copy.{Filter}
 use Rattle.vs_model.specs.Core.{Piece as Given, AreGiven, HasBase}
 use Rattle.vs_model.specs.Core.Piece.{Transaction, CopiedRows, CopyEnd}
-use Rattle.vs_render.specs.Bodies.{Rendered}
+use Rattle.vs_render.specs.Events.{Commits, chunk_said, closing_said, head_of}
+use Rattle.vs_render.specs.Frames.{fronts_said}
+use Rattle.vs_render.specs.Bodies.{Rendered, rendered}
 use Rattle.vs_render.specs.declared.piece.Piece.{Piece}
 use Rattle.vs_render.specs.declared.piece.Piece.TheVariants as piece
 use Rattle.vs_render.specs.declared.piece.EndCause.{EndCause}
@@ -48,3 +51,10 @@ pub record ArePosted (spells : BodySpelling) (cluster : Cluster) (rules : Filter
   pub given_there : AreGiven (rules s) s (log_of cluster s) told last start
   pub base : told ≢ [] → HasBase (log_of cluster s) start
   pub shows : Shows spells s pieces told last
+
+-- What bodies spell, where these columns leave of each shard's tables.
+abbrev pub spelled_by : (ShardName → List ℕ → List Column) → BodySpelling
+spelled_by fields = record {
+  entry = λ s e. rendered (head_of s e.time) (fronts_said (head_of s e.time) (fields s) e.work) (closing_said e.work);
+  rows = λ s table rows time. rendered (head_of s time) (chunk_said (fields s) table rows ∷ []) Commits;
+}
