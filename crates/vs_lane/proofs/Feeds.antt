@@ -1,5 +1,5 @@
 -- What a turn of a feed and its reader keeps.
-use Rattle.std.proofs.Common.{inl, inr, ◌≡◌, ◌≢◌, ℕ, suc, ◌+◌, ◌-◌, ◌^◌, ◌<◌, ◌≤◌, Bool, true, false, List, [], ◌∷◌, ◌++◌, length, take, drop, length-append, append_assoc, append-nil, Option, Some, None, Ok, Err, refl, sym, ap, ◌∙◌, subst, arith, true≢false}
+use Rattle.std.proofs.Common.{inl, inr, ◌≡◌, ◌≢◌, ℕ, zero, suc, ◌+◌, ◌-◌, ◌^◌, ◌<◌, ◌≤◌, Bool, true, false, List, [], ◌∷◌, ◌++◌, length, take, drop, length-append, append_assoc, append-nil, Option, Some, None, Ok, Err, refl, sym, ap, ◌∙◌, subst, arith, true≢false}
 use Rattle.std.specs.Prelude.{IfSome, IsSomeAnd, MatchOption}
 use Rattle.std.specs.Option.{ForSome}
 use Rattle.std.proofs.lemmas.List.{take_all, length-take}
@@ -19,12 +19,12 @@ use Rattle.vs_entries.specs.Laws.{BoundsParts}
 use Rattle.vs_entries.specs.Pieces.{Fed, GivesEntry, log_fed, rules_fed, with_piece}
 use Rattle.vs_entries.specs.declared.took.Took.TheVariants as took
 use Rattle.vs_entries.specs.declared.took.LogRefusal.TheVariants as refusal
-use Rattle.vs_lane.specs.Feeding.{Comes, HasReadAll, IsFront, IsLater, IsReading, IsSound, Read, given_of, log_read, read_as, rules_read}
+use Rattle.vs_lane.specs.Feeding.{Comes, HasReadAll, IsFront, IsHeldWithin, IsLater, IsReading, IsSound, Read, given_of, log_read, read_as, rules_read}
 use Rattle.vs_lane.specs.declared.entries.Came.{Came}
 use Rattle.vs_lane.specs.declared.entries.Came.TheVariants as came
 
 front_of : {A : Type 0} (n : ℕ) (xs : List A) → xs ≡ take n xs ++ drop n xs
-front_of 0 xs = refl
+front_of zero xs = refl
 front_of (suc n) [] = refl
 front_of (suc n) (x ∷ xs) = ap (λ l. x ∷ l) (front_of n xs)
 
@@ -92,12 +92,12 @@ later_read origin all given sound faults waits r new spent keyspace schema bytes
 }
 
 -- one entry more was given
-one_more : (r : Fed) (e : Entry) (behind : _) → (log_fed r).entries ≡ behind.0 ++ e ∷ behind.1 → length behind.0 ≡ r.given → take (suc r.given) (log_fed r).entries ≡ given_of r ++ e ∷ []
-one_more r e behind are count =
-    let front : take r.given (log_fed r).entries ≡ behind.0 =
-    ap (λ n. take n (log_fed r).entries) (sym count) ∙ ap (λ es. take (length behind.0) es) are ∙ take-append_seam behind.0 (e ∷ behind.1) in
-    let n : suc r.given ≡ length behind.0 + 1 = omega (arith, count) in
-    ap (λ k. take k (log_fed r).entries) n ∙ ap (λ es. take (length behind.0 + 1) es) are ∙ take-append-add behind.0 (e ∷ behind.1) 1 ∙ ap (λ l. l ++ e ∷ []) (sym front)
+one_more : (r : Fed) (e : Entry) (before behind : List Entry) → (log_fed r).entries ≡ before ++ e ∷ behind → length before ≡ r.given → take (suc r.given) (log_fed r).entries ≡ given_of r ++ e ∷ []
+one_more r e before behind are count =
+    let front : take r.given (log_fed r).entries ≡ before =
+    ap (λ n. take n (log_fed r).entries) (sym count) ∙ ap (λ es. take (length before) es) are ∙ take-append_seam before (e ∷ behind) in
+    let n : suc r.given ≡ length before + 1 = omega (arith, count) in
+    ap (λ k. take k (log_fed r).entries) n ∙ ap (λ es. take (length before + 1) es) are ∙ take-append-add before (e ∷ behind) 1 ∙ ap (λ l. l ++ e ∷ []) (sym front)
 
 module _ (origin : ShardName) (all given : Option (List ℕ)) (sound : Bool) (faults waits : ℕ) (r : Fed) (spent : Bool) (size : ℕ) (reading : IsReading all given r spent size) where
   abbrev Old : Read
@@ -120,7 +120,7 @@ module _ (origin : ShardName) (all given : Option (List ℕ)) (sound : Bool) (fa
       let still = moved (suc r.given) end r.spent new is later in (
         still,
         later_read origin all given sound faults waits r new spent (ap (λ (f : Fed). f.keyspace) is) (ap (λ (f : Fed). f.schema) is) (ap (λ (f : Fed). f.bytes) is),
-        (ap given_of is ∙ one_more r e (behind.before, behind.later) behind.are behind.count, subst (λ (f : Fed). StandsAt (rules_fed f) f.bytes e.gtid at) (sym is) stands, refl),
+        (ap given_of is ∙ one_more r e behind.before behind.later behind.are behind.count, subst (λ (f : Fed). StandsAt (rules_fed f) f.bytes e.gtid at) (sym is) stands, refl),
         sound_of origin all given sound faults waits new spent size still,
       )
 
@@ -241,7 +241,7 @@ module _ (origin : ShardName) (all given : Option (List ℕ)) (sound : Bool) (fa
       pub lost_turned : (new : Fed) → new ≡ record mid { from = new.from } →
           IsReading now after new true size × IsLater Old (New new true) × Comes Old came.Memory (New new true) × IsSound (New new true)
       lost_turned new is =
-          let s : IsReading now after new true size = record { fed = λ h. absurd (true≢false h); held = subst (λ (f : Fed). length f.bytes - f.at < _) (sym is) still.held; room = reading.room } in
+          let s : IsReading now after new true size = record { fed = λ h. absurd (true≢false h); held = subst (λ (f : Fed). IsHeldWithin (length f.bytes - f.at)) (sym is) still.held; room = reading.room } in
           (s,
             record {
               origin = same_origin;
@@ -255,3 +255,18 @@ module _ (origin : ShardName) (all given : Option (List ℕ)) (sound : Bool) (fa
             },
             ap given_of is ∙ same_given,
             sound_of origin' now after sound' faults' waits' new true size s)
+
+-- the buffer of a read keeps its room
+pub reading_in : (all given : Option (List ℕ)) (r : Fed) (spent : Bool) (size new : ℕ) → IsReading all given r spent size → new ≡ size → IsReading all given r spent new
+reading_in all given r spent size new h is = record { fed = h.fed; held = h.held; room = is ∙ h.room }
+
+pub reading_first : (all given : Option (List ℕ)) (r : Fed) (size : ℕ) → IfSome all (λ _. given ≡ Some []) → r.bytes ≡ [] → size ≡ 65536 → IsReading all given r false size
+reading_first all given r size told none room = record { fed = λ unspent. told_first all given r.bytes none told; held = omega (arith, ap (λ b. length b) none); room = room }
+  where
+    told_first : (all given : Option (List ℕ)) (bytes : List ℕ) → bytes ≡ [] → IfSome all (λ _. given ≡ Some []) → Told all given bytes
+    told_first None given bytes e h x is = absurd (cc)
+    told_first (Some a) given bytes e h x is = (h ∙ ap Some (sym e), (x, ap (λ b. b ++ x) e))
+
+-- a buffer that was written whole
+pub written_is : (n : ℕ) (xs ys : List ℕ) → length xs ≡ length ys → n ≡ length ys → take n (xs ++ drop (length xs) ys) ≡ xs
+written_is n xs ys same count = ap (λ k. take k (xs ++ drop (length xs) ys)) (count ∙ sym same) ∙ take-append_seam xs (drop (length xs) ys)

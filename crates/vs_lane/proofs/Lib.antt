@@ -5,3 +5,4 @@ pub mod Leading
 pub mod Feeds
 pub mod Searches
 pub mod Stepping
+pub mod Starting

@@ -9,7 +9,7 @@ use Rattle.vs_gtid.specs.declared.Entry.{Entry}
 use Rattle.vs_gtid.specs.declared.JournalValue.{JournalValue}
 use Rattle.vs_gtid.specs.Joins.{added}
 use Rattle.vs_gtid.specs.Logs.{Log, HaveDistinctGtids}
-use Rattle.vs_gtid.specs.Positions.{Position, has}
+use Rattle.vs_gtid.specs.Positions.{IsSubset, Position, has}
 use Rattle.vs_gtid.specs.Vectors.Place.{Streaming}
 use Rattle.vs_gtid.proofs.JoinLemmas.{has-added}
 use Rattle.vs_model.specs.Logs.{after, due, first_own, is_gtid_of, own_journal, stop, up_to_own}
@@ -181,3 +181,24 @@ pub but_last-behind : (es : List Entry) (e : Entry) → but_last (es ++ e ∷ []
 but_last-behind [] e = refl
 but_last-behind (x ∷ []) e = refl
 but_last-behind (x ∷ (y ∷ es)) e = ap (λ l. x ∷ l) (but_last-behind (y ∷ es) e)
+
+-- no GTID is in the empty set
+pub empty_within : (p q : Position) → p ≡ [] → IsSubset p q
+unfolding has
+empty_within p q is g in_p = let none : has [] g ≡ false = refl in absurd (true≢false (sym (rw is at in_p) ∙ none))
+
+-- ---- a position has the entries that lead to it
+
+gtid_in : (front es : List Entry) (e : Entry) → is_gtid_of (front ++ e ∷ es) e.gtid ≡ true
+gtid_in [] es e = or_left (same_gtid e.gtid e.gtid) _ (same_gtid-refl e.gtid)
+gtid_in (x ∷ front) es e = or_right (same_gtid x.gtid e.gtid) _ (gtid_in front es e)
+
+after_has : (p : Position) (front es : List Entry) → AreIn (position_after p (front ++ es)) es
+after_has p front [] = tt
+after_has p front (e ∷ es) = (
+    in_after p (front ++ e ∷ es) e.gtid (gtid_in front es e),
+    subst (λ l. AreIn (position_after p l) es) (append_assoc front (e ∷ []) es) (after_has p (front ++ e ∷ []) es),
+  )
+
+pub none_lacks : (p q : Position) (es : List Entry) → q ≡ position_after p es → lacking q es ≡ []
+none_lacks p q es is = lacking_none q es (subst (λ x. AreIn x es) (sym is) (after_has p [] es))

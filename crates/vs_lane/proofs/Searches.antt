@@ -1,6 +1,6 @@
 -- What the search for the end of a log keeps, and the entries that are passed over.
-use Rattle.std.proofs.Common.{inl, inr, ◌≡◌, ◌≢◌, ℕ, ◌+◌, ◌-◌, ◌^◌, ◌<◌, ◌≤◌, Bool, true, false, List, [], ◌∷◌, ◌++◌, length, length-append, append_assoc, append-nil, Option, Some, None, refl, sym, ap, ◌∙◌, subst, arith, true≢false}
-use Rattle.std.specs.Prelude.{◌⊎◌, unwrap_or}
+use Rattle.std.proofs.Common.{inl, inr, ◌≡◌, ◌≢◌, ℕ, ◌+◌, ◌-◌, ◌^◌, ◌<◌, ◌≤◌, Bool, true, false, List, [], ◌∷◌, ◌++◌, length, length-append, append_assoc, append-nil, Option, Some, None, Ok, refl, sym, ap, ◌∙◌, subst, arith, true≢false}
+use Rattle.std.specs.Prelude.{◌⊎◌, MatchOption, unwrap_or}
 use Rattle.std.specs.Option.{ForSome}
 use Rattle.vs_gtid.specs.declared.Entry.{Entry}
 use Rattle.vs_gtid.specs.Joins.{added}
@@ -12,7 +12,7 @@ use Rattle.vs_entries.specs.Rules.{rules_of}
 use Rattle.vs_lane.specs.Feeding.{Comes, HasReadAll, IsLater, IsSound, Read, log_read, rules_read}
 use Rattle.vs_lane.specs.Stands.{position_after}
 use Rattle.vs_lane.specs.Steps.{AreIn, ComesDue, IsLacking, read_on}
-use Rattle.vs_lane.specs.Ends.{FindsEnd, FindsNone}
+use Rattle.vs_lane.specs.Ends.{FindsEnd, FindsNone, Found}
 use Rattle.vs_lane.specs.declared.entries.Came.{Came}
 use Rattle.vs_lane.specs.declared.entries.Came.TheVariants as came
 
@@ -188,3 +188,9 @@ found_at_end old now new position p s later h is = record {
 
 pub failed_rose : (old now new : Read) (position : Option Position) → Seeking old now position → Comes now came.FeedFault new → Rose old.faults new.faults
 failed_rose old now new position s h = rose_from old.faults now.faults new.faults s.later.faults h.0
+
+pub stops_at_wait : (old now new : Read) (position found : Option Position) → Seeking old now position → IsLater now new → Comes now came.NotYet new →
+    MatchOption found ((position ≡ None) × (knows_base (rules_read new) new.bytes ≡ false)) (λ p. (p ≡ unwrap_or position (log_read new).base) × (position ≡ None → knows_base (rules_read new) new.bytes ≡ true)) →
+    Found old (Ok found) new
+stops_at_wait old now new position None s later h said = none_at_wait old now new position s later h said.0 said.1
+stops_at_wait old now new position (Some p) s later h said = found_at_wait old now new position p s later h said.0 said.1

@@ -43,11 +43,11 @@ use Rattle.vs_render.specs.declared.piece.Piece.TheVariants.{Tx, Foreign, Chunk,
 use Rattle.vs_render.specs.declared.piece.EndCause.{EndCause}
 use Rattle.vs_render.specs.declared.piece.EndCause.TheVariants.{AtEnd, OwnJournal, FeedFault, BadLog, Purged, Memory}
 use Rattle.vs_render.specs.declared.room.Room.{Room}
-use Rattle.vs_lane.specs.Feeding.{Comes, HasReadAll, IsFront, IsLater, IsSound, Read, log_read, rules_read}
+use Rattle.vs_lane.specs.Feeding.{Comes, is_entry, tells_log, HasReadAll, IsFront, IsLater, IsSound, Read, log_read, rules_read}
 use Rattle.vs_lane.specs.Pieces.{EndIsLast, OnEnd, meant_in, spelled_in}
 use Rattle.vs_lane.specs.Stands.{EndFits, EndHasBase, EndsBy, IsAtEnd, IsBadAt, IsSameLane, Later, Seen, StreamsFrom, lacking, log_seen, position_after}
-use Rattle.vs_lane.specs.Steps.{AreIn, ComesDue, HasBaseIn, IsLacking, Keeps, StepFor, StepOn, course_behind, is_entry, is_over, is_seeking, passed, read_on, seen_as}
-use Rattle.vs_lane.specs.Answers.{EndComes, EndsAtEntry, GivesPiece, HasNothingDue, IsEndBy, IsIdle, IsIdleFor, OfGiven, PieceComes, Says, SaysCame, SaysEnd, SaysInBase}
+use Rattle.vs_lane.specs.Steps.{AreIn, ComesDue, HasBaseIn, IsLacking, Keeps, StepFor, StepOn, course_behind, is_over, is_seeking, passed, read_on, seen_as}
+use Rattle.vs_lane.specs.Answers.{EitherBy, EndComes, EndsAtEntry, GivesPiece, HasNothingDue, IsEndBy, IsIdle, IsIdleFor, OfGiven, PieceComes, Says, SaysCame, SaysEnd, SaysInBase}
 use Rattle.vs_lane.specs.declared.course.Course.{Course}
 use Rattle.vs_lane.specs.declared.course.Course.TheVariants.{Seeks, GoesOn, Ended, EndedAtEntry}
 use Rattle.vs_lane.specs.declared.entries.Came.{Came}
@@ -492,10 +492,6 @@ module _ (name : ShardName) (bound : Bound) (start : Position) (until_end : Bool
 
 -- ---- the lane that a step leaves
 
-pub record Steps (name : ShardName) (bound : Bound) (start : Position) (until_end : Bool) (old new : Read) (now : Bool) (c : Course) (p : Piece) : Type 0 where
-  pub owes : Owes (seen_as name bound start until_end old GoesOn) (seen_as name bound start until_end new c) p
-  pub keeps : Keeps name start new now c
-
 unspent_on : (said : Came) (old new : Read) (skipped : List Entry) (p : Piece) → Comes (read_on old skipped) said new → old.spent ≡ false → is_over (course_behind (is_entry said) p) ≡ false →
     (name : ShardName) (bound : Bound) (start : Position) (until_end : Bool) → Says name bound start until_end new said p → new.spent ≡ false
 unspent_on (came.Entry e at) old new skipped p h was over name bound start until_end says = h.2 ∙ was
@@ -534,24 +530,42 @@ base_on r new start later h =
 pub checked_on : (name : ShardName) (start : Position) (old new : Read) (checked : Bool) (c : Course) → Keeps name start old checked c → IsLater old new → checked ≡ true → HasBaseIn new start
 checked_on name start old new checked c keeps later h = base_on old new start later (keeps.base h)
 
-pub stepped : (name : ShardName) (bound : Bound) (start : Position) (until_end : Bool) (old new : Read) (checked now : Bool) (c : Course) (said : Came) (p : Piece) →
-    Keeps name start old checked c → is_over c ≡ false → is_seeking c ≡ false → IsLater old new → ComesDue start old said new → IsSound new → Says name bound start until_end new said p → (now ≡ true → HasBaseIn new start) →
-    Steps name bound start until_end old new now (course_behind (is_entry said) p) p
-stepped name bound start until_end old new checked now c said p keeps over seeks later due sound says base =
-    let was : old.spent ≡ false = keeps.unspent over in
-    let key : new.keyspace ≡ name.keyspace = later.keyspace ∙ keeps.keyspace in
-    record {
-      owes = owed name bound start until_end old new key later sound due.skipped due.are_in was said p due.comes due.lacks says;
-      keeps = record {
-        keyspace = key;
-        sound = sound;
-        unspent = λ h. unspent_on said old new due.skipped p due.comes was h name bound start until_end says;
-        unread = λ h. absurd (true≢false (sym h ∙ no_seeking (is_entry said) p));
-        base = base;
-      };
-    }
-
 -- the lane of a course that goes on, as it is seen
 pub seen_on : (name : ShardName) (bound : Bound) (start : Position) (until_end : Bool) (r : Read) (c : Course) → is_over c ≡ false → is_seeking c ≡ false →
     seen_as name bound start until_end r c ≡ seen_as name bound start until_end r GoesOn
 seen_on name bound start until_end r c over seeks = ap (seen_as name bound start until_end r) (goes_on c over seeks)
+
+module _ (name : ShardName) (bound : Bound) (start : Position) (until_end : Bool) (old new : Read) (checked now : Bool) (c after : Course) (said : Came) (p : Piece) (at_entry : Bool)
+    (keeps : Keeps name start old checked c) (over : is_over c ≡ false) (seeks : is_seeking c ≡ false) (later : IsLater old new) (due : ComesDue start old said new) (sound : IsSound new)
+    (says : Says name bound start until_end new said p) (base : now ≡ true → HasBaseIn new start) (entry : at_entry ≡ is_entry said) (is : after ≡ course_behind at_entry p) where
+  was : old.spent ≡ false
+  was = keeps.unspent over
+
+  key : new.keyspace ≡ name.keyspace
+  key = later.keyspace ∙ keeps.keyspace
+
+  course_is : after ≡ course_behind (is_entry said) p
+  course_is = is ∙ ap (λ b. course_behind b p) entry
+
+  pub keeps_on : Keeps name start new now after
+  keeps_on = subst (Keeps name start new now) (sym course_is) (record {
+    keyspace = key;
+    sound = sound;
+    unspent = λ h. unspent_on said old new due.skipped p due.comes was h name bound start until_end says;
+    unread = λ h. absurd (true≢false (sym h ∙ no_seeking (is_entry said) p));
+    base = base;
+  })
+
+  pub owes_on : (L : Seen) → seen_as name bound start until_end old c ≡ L → Owes L (seen_as name bound start until_end new after) p
+  owes_on L view =
+      subst (λ x. Owes x (seen_as name bound start until_end new after) p) (sym (seen_on name bound start until_end old c over seeks) ∙ view)
+      (subst (λ a. Owes (seen_as name bound start until_end old GoesOn) (seen_as name bound start until_end new a) p) (sym course_is)
+        (owed name bound start until_end old new key later sound due.skipped due.are_in was said p due.comes due.lacks says))
+
+-- ---- the piece that is said
+
+pub says_in : (name : ShardName) (bound : Bound) (start : Position) (until_end : Bool) (r : Read) (said : Came) (p : Piece) → tells_log said ≡ true → SaysInBase name bound start until_end r said p → Says name bound start until_end r said p
+says_in name bound start until_end r said p h says = subst (λ b. EitherBy b (SaysInBase name bound start until_end r said p) (SaysCame name bound until_end said p)) (sym h) says
+
+pub says_out : (name : ShardName) (bound : Bound) (start : Position) (until_end : Bool) (r : Read) (said : Came) (p : Piece) → tells_log said ≡ false → SaysCame name bound until_end said p → Says name bound start until_end r said p
+says_out name bound start until_end r said p h says = subst (λ b. EitherBy b (SaysInBase name bound start until_end r said p) (SaysCame name bound until_end said p)) (sym h) says

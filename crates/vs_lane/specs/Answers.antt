@@ -17,7 +17,7 @@ use Rattle.vs_render.specs.declared.piece.EndCause.{EndCause}
 use Rattle.vs_render.specs.declared.piece.EndCause.TheVariants.{AtEnd, OwnJournal, FeedFault, BadLog, Purged, Memory}
 use Rattle.vs_render.specs.Bodies.{IsTooLarge, entry_body}
 use Rattle.vs_render.specs.Posted.{IsNoSwitch}
-use Rattle.vs_lane.specs.Feeding.{Read, log_read}
+use Rattle.vs_lane.specs.Feeding.{Read, log_read, tells_log}
 use Rattle.vs_lane.specs.Stands.{IsAtEnd, Seen, StreamsFrom, log_seen}
 use Rattle.vs_lane.specs.declared.entries.Came.{Came}
 use Rattle.vs_lane.specs.declared.entries.Came.TheVariants as came
@@ -81,14 +81,13 @@ abbrev pub SaysInBase : ShardName → Bound → Position → Bool → Read → C
 SaysInBase s bound start until_end r said p =
     (IsSubset (log_read r).base start × SaysCame s bound until_end said p) ⊎ ((g : Gtid) × IsEndBy (Purged g) p × IsFirstMissing (log_read r).base start g)
 
+abbrev pub EitherBy : Bool → Type 0 → Type 0 → Type 0
+EitherBy true P Q = P
+EitherBy false P Q = Q
+
 -- a failed read and want of memory come first
 abbrev pub Says : ShardName → Bound → Position → Bool → Read → Came → Piece → Type 0
-Says s bound start until_end r came.FeedFault p = IsEndBy FeedFault p
-Says s bound start until_end r came.Memory p = IsEndBy Memory p
-Says s bound start until_end r (came.Entry e at) p = SaysInBase s bound start until_end r (came.Entry e at) p
-Says s bound start until_end r came.NotYet p = SaysInBase s bound start until_end r came.NotYet p
-Says s bound start until_end r came.End p = SaysInBase s bound start until_end r came.End p
-Says s bound start until_end r (came.BadLog offset why) p = SaysInBase s bound start until_end r (came.BadLog offset why) p
+Says s bound start until_end r said p = EitherBy (tells_log said) (SaysInBase s bound start until_end r said p) (SaysCame s bound until_end said p)
 
 -- ---- what a step says beside the piece
 

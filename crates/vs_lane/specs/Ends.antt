@@ -10,6 +10,8 @@ use Rattle.vs_render.specs.declared.piece.EndCause.{EndCause}
 use Rattle.vs_render.specs.declared.piece.EndCause.TheVariants.{AtEnd, OwnJournal, FeedFault, BadLog, Purged, Memory}
 use Rattle.vs_request.specs.declared.request.StartAt.{StartAt}
 use Rattle.vs_request.specs.declared.request.StartAt.TheVariants as start
+use Rattle.vs_lane.specs.declared.course.Course.{Course}
+use Rattle.vs_lane.specs.declared.course.Course.TheVariants.{Seeks, GoesOn}
 use Rattle.vs_lane.specs.Feeding.{Read, log_read, rules_read}
 use Rattle.vs_lane.specs.Stands.{Seen, Stands, log_seen, position_after}
 use Rattle.vs_lane.specs.Answers.{HasGivenAll, OfGiven}
@@ -25,6 +27,12 @@ abbrev pub StartsAt : StartAt → Seen → Type 0
 StartsAt start.Fresh L = ⊥
 StartsAt start.Current L = L.seeks ≡ true
 StartsAt (start.At p) L = (L.seeks ≡ false) × (L.start ≡ Streaming p)
+
+-- the position and the course with which a lane begins
+abbrev pub BeginsAt : StartAt → Position → Course → Type 0
+BeginsAt start.Fresh p c = ⊥
+BeginsAt start.Current p c = (p ≡ []) × (c ≡ Seeks)
+BeginsAt (start.At q) p c = (p ≡ q) × (c ≡ GoesOn)
 
 -- ---- of what is read
 

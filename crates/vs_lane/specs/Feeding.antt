@@ -1,5 +1,5 @@
 -- The entries of a shard's log, as a feed gives its bytes.
-use Rattle.std.specs.Prelude.{◌≡◌, ◌≤◌, ◌<◌, ◌+◌, ◌-◌, ℕ, Bool, false, List, ◌∷◌, [], ◌++◌, length, take, Option, Some, None}
+use Rattle.std.specs.Prelude.{◌≡◌, ◌≤◌, ◌<◌, ◌+◌, ◌-◌, ℕ, Bool, true, false, List, ◌∷◌, [], ◌++◌, length, take, Option, Some, None}
 use Rattle.std.specs.Option.{ForSome}
 use Rattle.vs_base.specs.declared.ShardName.{ShardName}
 use Rattle.vs_gtid.specs.declared.Entry.{Entry}
@@ -91,6 +91,23 @@ pub record HasReadAll (old new : Read) : Type 0 where
   pub all : new.read ≡ (log_read new).entries
   pub faultless : (log_read new).fault ≡ None
   pub unspent : new.spent ≡ old.spent
+
+abbrev pub is_entry : Came → Bool
+is_entry (came.Entry e at) = true
+is_entry came.NotYet = false
+is_entry came.End = false
+is_entry came.FeedFault = false
+is_entry (came.BadLog offset why) = false
+is_entry came.Memory = false
+
+-- it says something of the log
+abbrev pub tells_log : Came → Bool
+tells_log (came.Entry e at) = true
+tells_log came.NotYet = true
+tells_log came.End = true
+tells_log came.FeedFault = false
+tells_log (came.BadLog offset why) = true
+tells_log came.Memory = false
 
 -- what the next answer says
 abbrev pub Comes : Read → Came → Read → Type 0

@@ -56,14 +56,6 @@ course_behind at_entry (Foreign g time j body) = GoesOn
 course_behind at_entry (Chunk q l time body) = GoesOn
 course_behind at_entry (CopyDone q time room) = GoesOn
 
-abbrev pub is_entry : Came → Bool
-is_entry (came.Entry e at) = true
-is_entry came.NotYet = false
-is_entry came.End = false
-is_entry came.FeedFault = false
-is_entry (came.BadLog offset why) = false
-is_entry came.Memory = false
-
 -- the lane that reads so
 abbrev pub seen_as : ShardName → Bound → Position → Bool → Read → Course → Seen
 seen_as name bound start until_end r course = record {

@@ -30,12 +30,16 @@ fn missing_base<F: Feed>(
     if *checked {
         return None;
     }
-    let base = entries.base()?;
-    if let Some(missing) = base.first_missing(start) {
-        return Some(missing);
+    match entries.base() {
+        None => None,
+        Some(base) => {
+            if let Some(missing) = base.first_missing(start) {
+                return Some(missing);
+            }
+            *checked = true;
+            None
+        }
     }
-    *checked = true;
-    None
 }
 
 /// The piece of what came, unless the log's base has a GTID that the start lacks.
@@ -55,16 +59,14 @@ pub(crate) fn answer<F: Feed>(
     ensures checked { checked.new ≡ true → HasBaseIn entries.now start.now }
     ensures size { buffer_size result ≡ room.buf.size }
 {
-    match &came {
-        Came::FeedFault | Came::Memory => {}
-        _ => {
-            if let Some(missing) = missing_base(entries, start, checked) {
-                return Piece::End {
-                    cause: EndCause::Purged { missing },
-                    room,
-                };
-            }
-        }
+    if !came.tells_log() {
+        return piece_said(alloc, name, bound, until_end, came, room);
     }
-    piece_said(alloc, name, bound, until_end, came, room)
+    match missing_base(entries, start, checked) {
+        Some(missing) => Piece::End {
+            cause: EndCause::Purged { missing },
+            room,
+        },
+        None => piece_said(alloc, name, bound, until_end, came, room),
+    }
 }

@@ -30,12 +30,19 @@ pub(crate) enum Came {
 
 impl Came {
     ghost use Rattle.std.specs.Prelude.{◌≡◌};
-    ghost use Rattle.vs_lane.specs.Steps.{is_entry};
+    ghost use Rattle.vs_lane.specs.Feeding.{is_entry, tells_log};
 
     pub fn is_entry(&self) -> bool
         ensures { result ≡ is_entry self.now }
     {
         matches!(self, Came::Entry { .. })
+    }
+
+    /// Whether it says something of the log: no failed read, and no want of memory.
+    pub fn tells_log(&self) -> bool
+        ensures { result ≡ tells_log self.now }
+    {
+        !matches!(self, Came::FeedFault | Came::Memory)
     }
 }
 

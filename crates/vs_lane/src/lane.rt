@@ -1,7 +1,7 @@
 //! A lane.
 ghost use Rattle.std.specs.Prelude.{◌≡◌, ◌<◌, ◌∷◌, [], IfErr, IfOk, IfSome, Some, false, true};
 ghost use Rattle.vs_lane.specs.Answers.{PieceComes};
-ghost use Rattle.vs_lane.specs.Ends.{FindsEndOf, IsToStream, StartsAt};
+ghost use Rattle.vs_lane.specs.Ends.{BeginsAt, FindsEndOf, IsToStream, StartsAt};
 ghost use Rattle.vs_lane.specs.Pieces.{buffer_size};
 ghost use Rattle.vs_lane.specs.Stands.{IsSameLane, Leads, Stands};
 
@@ -9,6 +9,7 @@ use crate::OutOfMemory;
 use crate::course::Course;
 use crate::ending::answer;
 use crate::entries::Entries;
+use crate::laws::law_step;
 use crate::seek::{next_due, seek_end};
 use std::alloc::{AllocError, Global};
 use std::marker::Model;
@@ -45,6 +46,18 @@ impl<F: Feed> Model for Lane<F> {
     ghost invariant = { λ l. Keeps l.name l.start l.entries l.checked l.course };
 }
 
+/// The start of a lane, as far as it is known, and its course.
+fn begin_at(alloc: Global, from: StartAt) -> (GtidSet, Course)
+    requires { IsToStream from }
+    ensures { BeginsAt from result.0 result.1 }
+{
+    match from {
+        StartAt::At(start) => (start, Course::GoesOn),
+        StartAt::Current => (GtidSet::new(alloc), Course::Seeks),
+        StartAt::Fresh => unreachable!(),
+    }
+}
+
 impl<F: Feed> Lane<F> {
     /// A lane that has given no piece, of a feed at its front. From `Current` on it first seeks its
     /// start: `find_end`.
@@ -73,11 +86,7 @@ impl<F: Feed> Lane<F> {
             Ok(entries) => entries,
             Err(feed) => return Err((feed, AllocError)),
         };
-        let (start, course) = match from {
-            StartAt::At(start) => (start, Course::GoesOn),
-            StartAt::Current => (GtidSet::new(alloc), Course::Seeks),
-            StartAt::Fresh => unreachable!(),
-        };
+        let (start, course) = begin_at(alloc, from);
         Ok(Lane {
             name,
             bound,
@@ -141,6 +150,7 @@ impl<F: Feed> Lane<F> {
         ensures comes { PieceComes self.old self.new result }
         ensures room { buffer_size result ≡ room.buf.size }
     {
+        law_step();
         let came = next_due(&mut self.entries, &self.start);
         let at_entry = came.is_entry();
         let piece = answer(

@@ -1,5 +1,7 @@
 //! The piece of what came of a log.
-ghost use Rattle.std.specs.Prelude.{◌≡◌, MatchResult, None, Some};
+ghost use Rattle.std.specs.Prelude.{◌≡◌, MatchResult, None, Some, ℕ};
+ghost use Rattle.vs_base.specs.declared.ShardName.{ShardName};
+ghost use Rattle.vs_filter.specs.declared.bound.Bound.{Bound};
 ghost use Rattle.vs_model.specs.Logs.{own_journal};
 ghost use Rattle.vs_model.specs.Names.{is_in};
 ghost use Rattle.vs_render.specs.Bodies.{entry_body};
@@ -21,7 +23,7 @@ fn is_participant(name: &ShardName, journal: &JournalValue) -> bool
         .participants
         .as_slice()
         .iter()
-        .any(|participant| participant == name)
+        .any(|participant| name.is_same(participant))
 }
 
 /// The entry, or the own journal of the shard that it is.
