@@ -222,8 +222,8 @@ module _ (origin : ShardName) (all given : Option (List ℕ)) (sound : Bool) (fa
             room = reading.room;
           } in
           let g = grows (rules_fed mid) mid.bytes (take n buf) in
-          let count : mid.given ≤ length (log_fed mid).entries = omega (arith, more.1, ap (λ (f : Fed). f.given) mid_is, ap (λ (f : Fed). length (log_fed f).entries) mid_is) in
-          (s,
+          let count : mid.given ≤ length (log_fed mid).entries = omega (arith, more.1, ap (λ (f : Fed). f.given) mid_is, ap (λ (f : Fed). length (log_fed f).entries) mid_is) in (
+            s,
             record {
               origin = same_origin;
               all = same_all;
@@ -235,14 +235,15 @@ module _ (origin : ShardName) (all given : Option (List ℕ)) (sound : Bool) (fa
               bytes = (take n buf, bytes ∙ ap (λ (f : Fed). f.bytes ++ take n buf) mid_is);
             },
             ap given_of is ∙ g.given mid.given count ∙ same_given,
-            sound_of origin' now after sound' faults' waits' new spent size s)
+            sound_of origin' now after sound' faults' waits' new spent size s,
+          )
 
       -- bytes came that could not be taken
       pub lost_turned : (new : Fed) → new ≡ record mid { from = new.from } →
           IsReading now after new true size × IsLater Old (New new true) × Comes Old came.Memory (New new true) × IsSound (New new true)
       lost_turned new is =
-          let s : IsReading now after new true size = record { fed = λ h. absurd (true≢false h); held = subst (λ (f : Fed). IsHeldWithin (length f.bytes - f.at)) (sym is) still.held; room = reading.room } in
-          (s,
+          let s : IsReading now after new true size = record { fed = λ h. absurd (true≢false h); held = subst (λ (f : Fed). IsHeldWithin (length f.bytes - f.at)) (sym is) still.held; room = reading.room } in (
+            s,
             record {
               origin = same_origin;
               all = same_all;
@@ -254,7 +255,8 @@ module _ (origin : ShardName) (all given : Option (List ℕ)) (sound : Bool) (fa
               bytes = ([], ap (λ (f : Fed). f.bytes) is ∙ ap (λ (f : Fed). f.bytes) mid_is ∙ sym (append-nil r.bytes));
             },
             ap given_of is ∙ same_given,
-            sound_of origin' now after sound' faults' waits' new true size s)
+            sound_of origin' now after sound' faults' waits' new true size s,
+          )
 
 -- the buffer of a read keeps its room
 pub reading_in : (all given : Option (List ℕ)) (r : Fed) (spent : Bool) (size new : ℕ) → IsReading all given r spent size → new ≡ size → IsReading all given r spent new

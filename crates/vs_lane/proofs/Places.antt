@@ -138,9 +138,9 @@ more_in p (x ∷ front) es g h = one_more (has p x.gtid) p x (front ++ es) g ref
 all_in : (p : Position) (front es : List Entry) → AreIn (position_after p (lacking p (front ++ es))) es
 all_in p front [] = tt
 all_in p front (e ∷ es) = (
-    more_in p front (e ∷ es) e.gtid (kept_in (has p e.gtid) p e es refl),
-    subst (λ l. AreIn (position_after p (lacking p l)) es) (append_assoc front (e ∷ []) es) (all_in p (front ++ e ∷ []) es),
-  )
+  more_in p front (e ∷ es) e.gtid (kept_in (has p e.gtid) p e es refl),
+  subst (λ l. AreIn (position_after p (lacking p l)) es) (append_assoc front (e ∷ []) es) (all_in p (front ++ e ∷ []) es),
+)
 
 pub read_in : (p : Position) (es : List Entry) → AreIn (position_after p (lacking p es)) es
 read_in p es = all_in p [] es
@@ -196,9 +196,9 @@ gtid_in (x ∷ front) es e = or_right (same_gtid x.gtid e.gtid) _ (gtid_in front
 after_has : (p : Position) (front es : List Entry) → AreIn (position_after p (front ++ es)) es
 after_has p front [] = tt
 after_has p front (e ∷ es) = (
-    in_after p (front ++ e ∷ es) e.gtid (gtid_in front es e),
-    subst (λ l. AreIn (position_after p l) es) (append_assoc front (e ∷ []) es) (after_has p (front ++ e ∷ []) es),
-  )
+  in_after p (front ++ e ∷ es) e.gtid (gtid_in front es e),
+  subst (λ l. AreIn (position_after p l) es) (append_assoc front (e ∷ []) es) (after_has p (front ++ e ∷ []) es),
+)
 
 pub none_lacks : (p q : Position) (es : List Entry) → q ≡ position_after p es → lacking q es ≡ []
 none_lacks p q es is = lacking_none q es (subst (λ x. AreIn x es) (sym is) (after_has p [] es))

@@ -110,9 +110,10 @@ same_rules r new later = ap (λ k. rules_of k new.schema) later.keyspace ∙ ap 
 base_stays : (r new : Read) → IsLater r new → knows_base (rules_read r) r.bytes ≡ true → (knows_base (rules_read new) new.bytes ≡ true) × ((log_read new).base ≡ (log_read r).base)
 base_stays r new later known =
     let same = same_rules r new later in
-    let k = (knows_its_base (rules_read r) r.bytes).stays later.bytes.0 known in
-    (ap (λ x. knows_base x new.bytes) same ∙ ap (knows_base (rules_read r)) later.bytes.1 ∙ k.0,
-      ap (λ x. (log_meant x new.bytes).base) same ∙ ap (λ b. (log_meant (rules_read r) b).base) later.bytes.1 ∙ k.1)
+    let k = (knows_its_base (rules_read r) r.bytes).stays later.bytes.0 known in (
+      ap (λ x. knows_base x new.bytes) same ∙ ap (knows_base (rules_read r)) later.bytes.1 ∙ k.0,
+      ap (λ x. (log_meant x new.bytes).base) same ∙ ap (λ b. (log_meant (rules_read r) b).base) later.bytes.1 ∙ k.1,
+    )
 
 pub behind_later : (r new : Read) (position : Option Position) → IsBehind r position → IsLater r new → new.read ≡ r.read → IsBehind new position
 behind_later r new position h later read = record {
@@ -148,9 +149,10 @@ seeking_on old now new position e at p s later h sound is = record {
   behind = record {
     none = λ e. absurd (cc);
     some = λ q is_q.
-        let same : p ≡ q = cc in
-        (sym same ∙ is ∙ ap (λ b. added b e.gtid) (from_base now new position s.behind later) ∙ sym (after-append (log_read new).base now.read e) ∙ ap (position_after (log_read new).base) (sym h.0),
-          some_read new now.read e sound h.0);
+        let same : p ≡ q = cc in (
+          sym same ∙ is ∙ ap (λ b. added b e.gtid) (from_base now new position s.behind later) ∙ sym (after-append (log_read new).base now.read e) ∙ ap (position_after (log_read new).base) (sym h.0),
+          some_read new now.read e sound h.0,
+        );
   };
 }
 

@@ -200,9 +200,10 @@ module _ (name : ShardName) (bound : Bound) (start : Position) (until_end : Bool
 
   entries_of_all : (all : List ℕ) → OfAll all → (front behind : List Entry) → (log_read new).entries ≡ front ++ behind → (more : List Entry) × ((log_meant R all).entries ≡ front ++ more)
   entries_of_all all on front behind is =
-      let g = grows R new.bytes on.rest in
-      (behind ++ g.entries.0,
-        ap (λ b. (log_meant R b).entries) on.are ∙ g.entries.1 ∙ ap (λ l. l ++ g.entries.0) (sym (ap (λ l. l.entries) log_is) ∙ is) ∙ append_assoc front behind g.entries.0)
+      let g = grows R new.bytes on.rest in (
+        behind ++ g.entries.0,
+        ap (λ b. (log_meant R b).entries) on.are ∙ g.entries.1 ∙ ap (λ l. l ++ g.entries.0) (sym (ap (λ l. l.entries) log_is) ∙ is) ∙ append_assoc front behind g.entries.0,
+      )
 
   stands_in_all : (all : List ℕ) → OfAll all → (g : Gtid) (at : ℕ) → StandsAt (rules_read new) new.bytes g at → StandsAt R all g at
   stands_in_all all on g at h =
@@ -318,22 +319,24 @@ module _ (name : ShardName) (bound : Bound) (start : Position) (until_end : Bool
         ap (log_meant R) same ∙ sym log_is
 
     ended : (log_read new).fault ≡ None → (room : Room) → until_end ≡ true → ForSome new.all (λ all. new.given ≡ Some all) → Owes L (M Ended) (End AtEnd room)
-    ended faultless room until given =
-        (end_step Ended AtEnd room None refl refl read refl
+    ended faultless room until given = (
+      end_step Ended AtEnd room None refl refl read refl
           (λ all is.
-            let same = log_whole all is (given all (later.all ∙ is)) in
-            (none_given all, (at_end (log_meant R all) (ap (λ l. l.entries) same ∙ sym whole), ap (λ l. l.fault) same ∙ faultless), subst (λ (l : Log). IsSubset l.base start) (sym same) within))
+          let same = log_whole all is (given all (later.all ∙ is)) in
+          (none_given all, (at_end (log_meant R all) (ap (λ l. l.entries) same ∙ sym whole), ap (λ l. l.fault) same ∙ faultless), subst (λ (l : Log). IsSubset l.base start) (sym same) within))
           (until, given),
-         tt)
+      tt,
+    )
 
     bad : (offset : ℕ) (why : Why) → (log_read new).fault ≡ Some (offset, why) → (room : Room) → Owes L (M Ended) (End (BadLog offset why) room)
-    bad offset why fault room =
-        (end_step Ended (BadLog offset why) room None refl refl read refl
+    bad offset why fault room = (
+      end_step Ended (BadLog offset why) room None refl refl read refl
           (λ all is.
-            let same = fault_of_all all (of_all unspent all is) offset why fault in
-            (none_given all, inl (at_end (log_meant R all) (ap (λ l. l.entries) same ∙ sym whole), ap (λ l. l.fault) same ∙ fault), subst (λ (l : Log). IsSubset l.base start) (sym same) within))
+          let same = fault_of_all all (of_all unspent all is) offset why fault in
+          (none_given all, inl (at_end (log_meant R all) (ap (λ l. l.entries) same ∙ sym whole), ap (λ l. l.fault) same ∙ fault), subst (λ (l : Log). IsSubset l.base start) (sym same) within))
           tt,
-         tt)
+      tt,
+    )
 
   -- ---- where an entry came that the start lacks
 
@@ -397,31 +400,35 @@ module _ (name : ShardName) (bound : Bound) (start : Position) (until_end : Bool
     }
 
     own_step : (j : JournalValue) (room : Room) → own_journal name e ≡ Some j → Owes L (M EndedAtEntry) (End (OwnJournal j) room)
-    own_step j room own =
-        (end_step EndedAtEntry (OwnJournal j) room (Some j) refl refl before refl
+    own_step j room own = (
+      end_step EndedAtEntry (OwnJournal j) room (Some j) refl refl before refl
           (λ all is.
-            let on = of_all unspent all is in
-            let es = entries all on in
-            let ahead = own_next name (log_meant R all) P (old.read ++ skipped) es.0 e es.1 in_front (not_there all es.0 es.1) j own in
-            (subst (λ l. AreGiven (meant_in bound old.schema) name l [] (Some j) (Streaming P)) (sym (log_was all)) (given_own (meant_in bound old.schema) name (log_meant R all) P j ahead.0 ahead.1),
-              subst (λ (q : Place). StreamsFrom q (λ p. (due name (log_meant R all) p ≡ []) × (stop name (log_meant R all) p ≡ Some j))) (sym (stays (passed EndedAtEntry new.read) before)) ahead,
-              base_of_all all on some within))
+          let on = of_all unspent all is in
+          let es = entries all on in
+          let ahead = own_next name (log_meant R all) P (old.read ++ skipped) es.0 e es.1 in_front (not_there all es.0 es.1) j own in (
+            subst (λ l. AreGiven (meant_in bound old.schema) name l [] (Some j) (Streaming P)) (sym (log_was all)) (given_own (meant_in bound old.schema) name (log_meant R all) P j ahead.0 ahead.1),
+            subst (λ (q : Place). StreamsFrom q (λ p. (due name (log_meant R all) p ≡ []) × (stop name (log_meant R all) p ≡ Some j))) (sym (stays (passed EndedAtEntry new.read) before)) ahead,
+            base_of_all all on some within,
+          ))
           tt,
-         tt)
+      tt,
+    )
 
     large_step : (size : ℕ) (room : Room) → own_journal name e ≡ None → IsTooLarge (entry_body bound.tables name e) size → Owes L (M EndedAtEntry) (End (BadLog at (TooLarge size)) room)
-    large_step size room none large =
-        (end_step EndedAtEntry (BadLog at (TooLarge size)) room None refl refl before refl
+    large_step size room none large = (
+      end_step EndedAtEntry (BadLog at (TooLarge size)) room None refl refl before refl
           (λ all is.
-            let on = of_all unspent all is in
-            let es = entries all on in
-            let next = next_due name (log_meant R all) P (old.read ++ skipped) es.0 e es.1 in_front (not_there all es.0 es.1) none in
-            (none_given all,
-              subst (λ (q : Place). StreamsFrom q (λ p. IsBadAt (M EndedAtEntry) all at (TooLarge size) p)) (sym (stays (passed EndedAtEntry new.read) before))
-              (inr (size, refl, record { e = e; rest = _; next = next; stands = stands_in_all all on e.gtid at stands; large = large })),
-              base_of_all all on some within))
+          let on = of_all unspent all is in
+          let es = entries all on in
+          let next = next_due name (log_meant R all) P (old.read ++ skipped) es.0 e es.1 in_front (not_there all es.0 es.1) none in (
+            none_given all,
+            subst (λ (q : Place). StreamsFrom q (λ p. IsBadAt (M EndedAtEntry) all at (TooLarge size) p)) (sym (stays (passed EndedAtEntry new.read) before))
+                (inr (size, refl, record { e = e; rest = _; next = next; stands = stands_in_all all on e.gtid at stands; large = large })),
+            base_of_all all on some within,
+          ))
           tt,
-         tt)
+      tt,
+    )
 
     end_owed : (cause : EndCause) (room : Room) → EndsAtEntry name bound e at cause → Owes L (M EndedAtEntry) (End cause room)
     end_owed (OwnJournal j) room h = own_step j room h
@@ -434,16 +441,18 @@ module _ (name : ShardName) (bound : Bound) (start : Position) (until_end : Bool
     end_owed (Purged g) room h = absurd h
 
     entry_owed : (p : Piece) → GivesPiece name bound e at p → Owes L (M (course_behind true p)) p
-    entry_owed (Tx g time body) h =
-        (tx_step (Tx g time body) h.3
+    entry_owed (Tx g time body) h = (
+      tx_step (Tx g time body) h.3
           (W, [], refl, h.0, h.1, (λ j is. h.4 j (sym (same_journal bound.tables old.schema.tables e e.work refl) ∙ is)), spelled_body bound old.schema.tables name e ∙ sym h.2, (refl, refl))
           refl,
-         tt)
-    entry_owed (Foreign g time j body) h =
-        (tx_step (Foreign g time j body) h.3
+      tt,
+    )
+    entry_owed (Foreign g time j body) h = (
+      tx_step (Foreign g time j body) h.3
           (W, [], refl, h.0, h.1, same_journal bound.tables old.schema.tables e e.work refl ∙ h.4, spelled_body bound old.schema.tables name e ∙ sym h.2, (refl, refl))
           refl,
-         h.5)
+      h.5,
+    )
     entry_owed (End cause room) h = end_owed cause room h
     entry_owed (Idle room) h = absurd h
     entry_owed (Chunk q l time body) h = absurd h
@@ -522,9 +531,10 @@ base_on : (r new : Read) (start : Position) → IsLater r new → HasBaseIn r st
 base_on r new start later h =
     let same : rules_read new ≡ rules_read r = ap (λ k. rules_of k new.schema) later.keyspace ∙ ap (λ s. rules_of r.keyspace s) later.schema in
     let k = (knows_its_base (rules_read r) r.bytes).stays later.bytes.0 h.0 in
-    let bytes = later.bytes.1 in
-    (ap (λ x. knows_base x new.bytes) same ∙ ap (knows_base (rules_read r)) bytes ∙ k.0,
-      subst (λ b. IsSubset b start) (sym (ap (λ x. (log_meant x new.bytes).base) same ∙ ap (λ b. (log_meant (rules_read r) b).base) bytes ∙ k.1)) h.1)
+    let bytes = later.bytes.1 in (
+      ap (λ x. knows_base x new.bytes) same ∙ ap (knows_base (rules_read r)) bytes ∙ k.0,
+      subst (λ b. IsSubset b start) (sym (ap (λ x. (log_meant x new.bytes).base) same ∙ ap (λ b. (log_meant (rules_read r) b).base) bytes ∙ k.1)) h.1,
+    )
 
 -- before the answer the base is known as it was
 pub checked_on : (name : ShardName) (start : Position) (old new : Read) (checked : Bool) (c : Course) → Keeps name start old checked c → IsLater old new → checked ≡ true → HasBaseIn new start
@@ -560,7 +570,7 @@ module _ (name : ShardName) (bound : Bound) (start : Position) (until_end : Bool
   owes_on L view =
       subst (λ x. Owes x (seen_as name bound start until_end new after) p) (sym (seen_on name bound start until_end old c over seeks) ∙ view)
       (subst (λ a. Owes (seen_as name bound start until_end old GoesOn) (seen_as name bound start until_end new a) p) (sym course_is)
-        (owed name bound start until_end old new key later sound due.skipped due.are_in was said p due.comes due.lacks says))
+      (owed name bound start until_end old new key later sound due.skipped due.are_in was said p due.comes due.lacks says))
 
 -- ---- the piece that is said
 

@@ -1,6 +1,6 @@
 //! How far a lane has come.
 ghost use Rattle.std.specs.Prelude.{◌≡◌};
-ghost use Rattle.vs_lane.specs.Steps.{course_behind, is_over};
+ghost use Rattle.vs_lane.specs.Steps.{course_behind, is_over, is_seeking};
 
 use vs_render::Piece;
 
@@ -17,6 +17,12 @@ pub(crate) enum Course {
 }
 
 impl Course {
+    pub fn is_seeking(&self) -> bool
+        ensures { result ≡ is_seeking self.now }
+    {
+        matches!(self, Course::Seeks)
+    }
+
     pub fn is_over(&self) -> bool
         ensures { result ≡ is_over self.now }
     {

@@ -18,11 +18,7 @@ use vs_render::{EndCause, Piece, Room};
 
 /// The least GTID of the log's base that the start lacks, as far as the base is known. It is looked at
 /// until it is known.
-fn missing_base<F: Feed>(
-    entries: &Entries<F>,
-    start: &GtidSet,
-    checked: &mut bool,
-) -> Option<Gtid>
+fn missing_base<F: Feed>(entries: &Entries<F>, start: &GtidSet, checked: &mut bool) -> Option<Gtid>
     requires { checked.old ≡ true → HasBaseIn entries.now start.now }
     ensures missing { MatchOption result (IsSubset (log_read entries.now).base start.now) (λ g. IsFirstMissing (log_read entries.now).base start.now g) }
     ensures checked { checked.new ≡ true → HasBaseIn entries.now start.now }

@@ -70,12 +70,7 @@ impl<F: Feed> Model for Entries<F> {
 
 impl<F: Feed> Entries<F> {
     /// Of a feed that has given nothing.
-    pub fn new(
-        alloc: Global,
-        feed: F,
-        schema: &Schema,
-        keyspace: &[u8],
-    ) -> Result<Entries<F>, F>
+    pub fn new(alloc: Global, feed: F, schema: &Schema, keyspace: &[u8]) -> Result<Entries<F>, F>
         requires { IfSome (F.all feed) (λ _. F.given feed ≡ Some []) }
         ensures feed { IfErr result (λ f. f ≡ feed) }
         ensures counts { IfOk result (λ e. (e.faults ≡ F.faults feed) × (e.waits ≡ F.waits feed)) }

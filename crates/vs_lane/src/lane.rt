@@ -105,6 +105,13 @@ impl<F: Feed> Lane<F> {
         self.course.is_over()
     }
 
+    /// Whether its start is the end of the log, and wasn't found yet.
+    pub fn is_seeking(&self) -> bool
+        ensures { result ≡ self.now.seeks }
+    {
+        self.course.is_seeking()
+    }
+
     /// How many bytes of the log it holds unread.
     pub fn held(&self) -> usize
         ensures held { result ≡ self.now.held }

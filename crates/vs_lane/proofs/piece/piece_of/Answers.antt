@@ -9,4 +9,4 @@ pub returns-in-Ok-render-clause-piece : goal.returns-in-Ok-render-clause-piece
 returns-in-Ok-render-clause-piece c =
     subst (λ (e : Entry). GivesPiece c.args.name.now c.args.bound.now e c.args.at c.with_body.result) c.in-Ok.ensures.0
     (c.with_body.ensures.piece c.args.name.now c.args.bound.now c.args.at (ap (λ (b : HeldBody). b.body) c.in-Ok-render.ensures.body)
-      (subst (λ (e : Entry). own_journal c.args.name.now e ≡ None) (sym c.in-Ok.ensures.0) c.in-Ok.ensures.1))
+    (subst (λ (e : Entry). own_journal c.args.name.now e ≡ None) (sym c.in-Ok.ensures.0) c.in-Ok.ensures.1))

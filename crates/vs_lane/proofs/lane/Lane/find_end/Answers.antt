@@ -10,7 +10,7 @@ returns-in-Ok-clause-finds g c =
 
 pub returns-in-Err-clause-finds : goal.returns-in-Err-clause-finds
 returns-in-Err-clause-finds g c = (
-    refl,
-    has_no_start c.self.inside.name c.self.inside.bound c.self.inside.start c.self.inside.until_end c.self.inside.entries c.seek_end.new.entries c.self.inside.checked c.self.inside.course c.self.invariant
-    (ap (λ (s : Seen). s.ended) c.self.view_is ∙ c.requires.goes_on) c.seek_end.ensures.later c.seek_end.ensures.sound c.in-Err.cause c.in-Err.ensures.finds c.args.self.now c.self.view_is,
-  )
+  refl,
+  has_no_start c.self.inside.name c.self.inside.bound c.self.inside.start c.self.inside.until_end c.self.inside.entries c.seek_end.new.entries c.self.inside.checked c.self.inside.course c.self.invariant
+      (ap (λ (s : Seen). s.ended) c.self.view_is ∙ c.requires.goes_on) c.seek_end.ensures.later c.seek_end.ensures.sound c.in-Err.cause c.in-Err.ensures.finds c.args.self.now c.self.view_is,
+)
