@@ -1,20 +1,24 @@
 -- What a lane begins with, and what it finds where it seeks its start.
-use Rattle.std.proofs.Common.{inl, inr, ◌≡◌, ◌≢◌, ℕ, Bool, true, false, List, [], ◌∷◌, ◌++◌, Option, Some, None, refl, sym, ap, ◌∙◌, subst, true≢false}
+use Rattle.std.proofs.Common.{inl, inr, ◌≡◌, ◌≢◌, ◌||◌, ℕ, ◌≤◌, Bool, true, false, List, [], ◌∷◌, ◌++◌, length, take, Option, Some, None, refl, sym, ap, ◌∙◌, subst, arith, true≢false}
 use Rattle.std.specs.Prelude.{◌⊎◌}
 use Rattle.std.specs.Option.{ForSome}
+use Rattle.std.proofs.lemmas.List.{take_all}
+use Rattle.std.proofs.Math.Seq.{take-append_seam}
 use Rattle.vs_base.specs.declared.ShardName.{ShardName}
 use Rattle.vs_base.specs.declared.Why.{Why}
 use Rattle.vs_gtid.specs.declared.Entry.{Entry}
 use Rattle.vs_gtid.specs.Logs.{Log}
-use Rattle.vs_gtid.specs.Positions.{Position}
+use Rattle.vs_gtid.specs.Positions.{Position, has}
 use Rattle.vs_gtid.specs.Vectors.Place.{Streaming}
 use Rattle.vs_rows.specs.Tables.{Tables}
 use Rattle.vs_log.specs.Meaning.{knows_base, log_meant}
 use Rattle.vs_log.specs.Table.{Rules}
+use Rattle.vs_log.proofs.Bases.{knows_its_base}
 use Rattle.vs_log.proofs.Faults.{grows}
 use Rattle.vs_entries.specs.Rules.{rules_of}
 use Rattle.vs_filter.specs.declared.bound.Bound.{Bound}
 use Rattle.vs_outside.specs.Counts.{Rose}
+use Rattle.vs_model.specs.Logs.{IsPositionAfter, is_gtid_of}
 use Rattle.vs_render.specs.declared.piece.EndCause.{EndCause}
 use Rattle.vs_render.specs.declared.piece.EndCause.TheVariants.{AtEnd, OwnJournal, FeedFault, BadLog, Purged, Memory}
 use Rattle.vs_request.specs.declared.request.StartAt.{StartAt}
@@ -27,7 +31,7 @@ use Rattle.vs_lane.specs.Answers.{HasGivenAll, OfGiven}
 use Rattle.vs_lane.specs.Ends.{BeginsAt, FailsSearch, FindsEnd, FindsStart, HasNoStart, KnowsBase, StartsAt}
 use Rattle.vs_lane.specs.declared.course.Course.{Course}
 use Rattle.vs_lane.specs.declared.course.Course.TheVariants.{Seeks, GoesOn, Ended, EndedAtEntry}
-use Rattle.vs_lane.proofs.Places.{given_none, none_lacks}
+use Rattle.vs_lane.proofs.Places.{given_none, has-after, none_lacks}
 
 -- ---- at the start
 
@@ -98,6 +102,30 @@ module _ (name : ShardName) (bound : Bound) (p : Position) (until_end : Bool) (o
   waited_so L q same unspent (◌⊎◌.inl h) = inl (subst (λ n. Rose n new.waits) (sym same) h.0, of_given (λ bytes. knows_base R bytes ≡ true) unspent (ap (λ r. knows_base r new.bytes) (sym rules_are) ∙ h.1))
   waited_so L q same unspent (◌⊎◌.inr h) = inr h
 
+  -- the log of all bytes begins with what came
+  begins_so : (p : Position) (log : Log) (n : ℕ) → p ≡ position_after (log_read new).base (log_read new).entries → log.base ≡ (log_read new).base → take n log.entries ≡ (log_read new).entries →
+      IsPositionAfter log.base (take n log.entries) p
+  begins_so p log n is base entries g =
+      ap (λ q. has q g) is ∙ has-after (log_read new).base (log_read new).entries g ∙ ap (λ b. has b g || is_gtid_of (log_read new).entries g) (sym base)
+      ∙ ap (λ es. has log.base g || is_gtid_of es g) (sym entries)
+
+  first_entries : (q : Position) → new.spent ≡ false → q ≡ position_after (log_read new).base (log_read new).entries → (Rose old.waits new.waits × (knows_base (rules_read new) new.bytes ≡ true)) ⊎ ForSome new.all (λ all. new.given ≡ Some all) →
+      (all : List ℕ) → new.all ≡ Some all → (m : ℕ) × IsPositionAfter (log_meant R all).base (take m (log_meant R all).entries) q
+  first_entries q unspent is (◌⊎◌.inl h) all told =
+      let b = sound.bytes unspent all told in
+      let known : knows_base R new.bytes ≡ true = ap (λ r. knows_base r new.bytes) (sym rules_are) ∙ h.1 in
+      let k = (knows_its_base R new.bytes).stays b.1.0 known in
+      let g = (grows R new.bytes b.1.0).entries in
+      let es = (log_read new).entries in
+      let base : (log_meant R all).base ≡ (log_read new).base = ap (λ x. (log_meant R x).base) (sym b.1.1) ∙ k.1 ∙ sym (ap (λ (l : Log). l.base) log_is) in
+      let entries : (log_meant R all).entries ≡ es ++ g.0 = ap (λ x. (log_meant R x).entries) (sym b.1.1) ∙ g.1 ∙ ap (λ (l : Log). l.entries ++ g.0) (sym log_is) in
+      (length es, begins_so q (log_meant R all) (length es) is base (ap (λ x. take (length es) x) entries ∙ take-append_seam es g.0))
+  first_entries q unspent is (◌⊎◌.inr whole) all told =
+      let b = sound.bytes unspent all told in
+      let same : log_meant R all ≡ log_read new = ap (log_meant R) (same_some all new.bytes (sym (whole all told) ∙ b.0)) ∙ sym log_is in
+      let es = (log_read new).entries in
+      (length es, begins_so q (log_meant R all) (length es) is (ap (λ (l : Log). l.base) same) (ap (λ (l : Log). take (length es) l.entries) same ∙ take_all (length es) es (omega arith)))
+
   pub finds_start : (q said : Position) → FindsEnd old new q → said ≡ q → (L : Seen) → seen_as name bound p until_end old c ≡ L → FindsStart L (seen_as name bound q until_end new GoesOn) said
   finds_start q said found same L view =
       let unspent : new.spent ≡ false = found.unspent ∙ keeps.unspent over in
@@ -107,6 +135,7 @@ module _ (name : ShardName) (bound : Bound) (p : Position) (until_end : Bool) (o
         goes_on = refl;
         start = ap Streaming (sym same);
         position = of_given (λ bytes. said ≡ position_after (log_meant R bytes).base (log_meant R bytes).entries) unspent (same ∙ found.position ∙ ap (λ (l : Log). position_after l.base l.entries) log_is);
+        first = λ all told. subst (λ x. (m : ℕ) × IsPositionAfter (log_meant R all).base (take m (log_meant R all).entries) x) (sym same) (first_entries q unspent found.position found.waited all told);
         waited = waited_so L q (ap (λ (s : Seen). s.waits) (sym view)) unspent found.waited;
         stands = stands_first (seen_as name bound q until_end new GoesOn) q refl (ap (λ es. Streaming (position_after q es)) none) refl;
       }

@@ -1,11 +1,12 @@
 -- What the search for the end of a log finds.
-use Rattle.std.specs.Prelude.{◌≡◌, ◌⊎◌, ℕ, Bool, true, false, List, [], Option, Some, None, Result, Ok, Err}
+use Rattle.std.specs.Prelude.{◌≡◌, ◌⊎◌, ℕ, Bool, true, false, List, [], take, Option, Some, None, Result, Ok, Err}
 use Rattle.std.specs.Option.{ForSome}
 use Rattle.vs_gtid.specs.Positions.{Position}
 use Rattle.vs_gtid.specs.Vectors.Place.{Streaming}
 use Rattle.vs_log.specs.Meaning.{knows_base}
 use Rattle.vs_entries.specs.Rules.{rules_of}
 use Rattle.vs_outside.specs.Counts.{Rose}
+use Rattle.vs_model.specs.Logs.{IsPositionAfter}
 use Rattle.vs_render.specs.declared.piece.EndCause.{EndCause}
 use Rattle.vs_render.specs.declared.piece.EndCause.TheVariants.{AtEnd, OwnJournal, FeedFault, BadLog, Purged, Memory}
 use Rattle.vs_request.specs.declared.request.StartAt.{StartAt}
@@ -70,12 +71,13 @@ Found old (Err cause) new = FailsSearch old new cause
 abbrev pub KnowsBase : Seen → Type 0
 KnowsBase L = OfGiven L (λ bytes. knows_base (rules_of L.shard.keyspace L.schema) bytes ≡ true)
 
--- The lane goes on from this position: the base of what was given, with each entry that is whole in it. The feed waited and the base is known, or all was given.
+-- The lane goes on from this position: the base of what was given, with each entry that is whole in it; so it is the log's base with its first entries. The feed waited and the base is known, or all was given.
 pub record FindsStart (L M : Seen) (p : Position) : Type 0 where
   pub seeks : M.seeks ≡ false
   pub goes_on : M.ended ≡ false
   pub start : M.start ≡ Streaming p
   pub position : OfGiven M (λ bytes. p ≡ position_after (log_seen M bytes).base (log_seen M bytes).entries)
+  pub first : ForSome M.all (λ all. (m : ℕ) × IsPositionAfter (log_seen M all).base (take m (log_seen M all).entries) p)
   pub waited : (Rose L.waits M.waits × KnowsBase M) ⊎ HasGivenAll M
   pub stands : Stands M []
 
