@@ -8,7 +8,8 @@ use Rattle.vs_render.specs.Events.{Telling, head_of}
 use Rattle.vs_render.specs.Frames.{frame_bytes, frames_bytes}
 use Rattle.vs_core.specs.Machine.{Sent}
 use Rattle.vs_core.specs.Machine.Sent.{SentBody, SentCopyDone, SentSwitch, SentHalt, SentAllCopied, SentBeat}
-use Rattle.vs_core.specs.Runs.{BodySpelling, IsSentFrame}
+use Rattle.vs_render.specs.Posted.{BodySpelling}
+use Rattle.vs_core.specs.Runs.{IsSentFrame}
 use Rattle.vs_core.specs.Spelling.{SpellsFrames, sent_bytes, stream_bytes}
 
 module _ (spells : BodySpelling) (t : Telling) (whole : SpellsFrames spells t) where

@@ -58,7 +58,8 @@ use Rattle.vs_core.specs.Machine.Sent.{SentBody, SentCopyDone, SentSwitch, SentH
 use Rattle.vs_core.specs.Machine.Turned.{Went, Refused}
 use Rattle.vs_core.specs.Machine.TurnTold.{Restart, Ended, Halted, Switched, AllCopied, Done, Stuck, Nothing}
 use Rattle.vs_core.specs.Runs.StreamRun.{starts, goes_on}
-use Rattle.vs_core.specs.Runs.{BodySpelling, StreamRun, Shows, ArePosted, ArePostedFrom, IsSentFrame, IsLegalStream, pieces_taken, takes_of}
+use Rattle.vs_render.specs.Posted.{ArePosted, BodySpelling, Shows}
+use Rattle.vs_core.specs.Runs.{StreamRun, ArePostedFrom, IsSentFrame, IsLegalStream, pieces_taken, takes_of}
 use Rattle.vs_core.proofs.Slots.{all_found, at_append, append_at, at_set, set_other, length_set, length_more, if_some, none_any, none_found}
 use Rattle.vs_core.proofs.HeldPieces.{all_without_head, held_append, held_other, held_parts, held_past, lane_held, none_held, not_same}
 use Rattle.vs_core.proofs.Ends.{CopiesOrEnded, SomeCopies, ends_now, ends_piece, ends_still}

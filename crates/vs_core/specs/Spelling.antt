@@ -11,7 +11,7 @@ use Rattle.vs_render.specs.Events.{Telling, head_of}
 use Rattle.vs_render.specs.Frames.{frame_bytes}
 use Rattle.vs_core.specs.Machine.{Sent}
 use Rattle.vs_core.specs.Machine.Sent.{SentBody, SentCopyDone, SentSwitch, SentHalt, SentAllCopied, SentBeat}
-use Rattle.vs_core.specs.Runs.{BodySpelling}
+use Rattle.vs_render.specs.Posted.{BodySpelling}
 
 -- what is told by frames that name no table
 abbrev pub told_without_tables : Bool → Telling

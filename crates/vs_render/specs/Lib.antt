@@ -4,6 +4,7 @@ pub mod Events
 pub mod Spelling
 pub mod Frames
 pub mod Bodies
+pub mod Posted
 pub mod Rendering
 pub mod Refusals
 pub mod Laws

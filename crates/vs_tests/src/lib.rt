@@ -8,6 +8,8 @@ mod case;
 #[cfg(test)]
 mod gathers;
 #[cfg(test)]
+mod lanes;
+#[cfg(test)]
 mod logs;
 #[cfg(test)]
 mod refusals;
