@@ -46,10 +46,11 @@ pub enum Why {
     NotFullImage { table: Text },
     /// The rows are cut, or one of them is none of the table.
     BadRow { table: Text },
+    /// The text of a journal is refused from this byte on; at its length where the refusal has no
+    /// place.
+    BadJournal { at: usize },
     /// A journal stands beside other changes.
     JournalNotAlone,
-    /// The log goes on with what this release does not do.
-    NotBuilt,
 }
 
 impl Why {
@@ -85,8 +86,8 @@ impl Why {
             Why::BadRow { table } => Why::BadRow {
                 table: table.copy(alloc)?,
             },
+            Why::BadJournal { at } => Why::BadJournal { at: *at },
             Why::JournalNotAlone => Why::JournalNotAlone,
-            Why::NotBuilt => Why::NotBuilt,
         })
     }
 }

@@ -1,6 +1,7 @@
 pub mod WordLemmas
 pub mod Lines
-pub mod Journals
+pub mod JournalValues
+pub mod JournalLemmas
 pub mod WalkLemmas
 pub mod WindowLemmas
 pub mod OverLemmas

@@ -2,7 +2,7 @@
 use Rattle.std.proofs.Common.{◌≡◌, ◌≤◌, ◌<◌, ℕ, Bool, true, false, List, [], ◌++◌, length, length-drop, drop, Option, Some, None, Err, refl, ap, sym, subst, ◌∙◌, arith}
 use Rattle.std.specs.Prelude.{◌⊎◌}
 use Rattle.std.proofs.lemmas.Bool.{cases_lt}
-use Rattle.vs_base.specs.declared.Change.{Change}
+use Rattle.vs_gtid.specs.declared.Work.{Work}
 use Rattle.vs_base.specs.declared.Why.{Why}
 use Rattle.vs_gtid.specs.Positions.{Position}
 use Rattle.vs_rows.specs.Tables.{Tables}
@@ -14,7 +14,7 @@ use Rattle.vs_log.specs.Steps.{Reaches, next_state}
 use Rattle.vs_log.specs.Table.{Rules}
 use Rattle.vs_entries.specs.Laws.{LogLaws}
 use Rattle.vs_entries.specs.Pieces.{Fed, GivesEntry, log_fed}
-use Rattle.vs_entries.specs.Reading.{is_early, place_of, state_of, with_entries}
+use Rattle.vs_entries.specs.Reading.{is_early, place_of, state_of, with_entries, work_in}
 use Rattle.vs_entries.specs.Rules.{rules_of}
 use Rattle.vs_entries.specs.Walks.{IsBack, IsBegunAt, IsEarly, IsFresh, IsOver, IsStuck, IsWalk, KeepsFault, ReadsEnd, Stands, Tells}
 use Rattle.vs_entries.specs.Windows.{TellsMagic, Windowed}
@@ -30,18 +30,18 @@ use Rattle.vs_entries.proofs.WalkLemmas.{front_none, front_short, front_starts, 
 
 -- ---- a walk that is put back where it began
 
-place_early : (standing : Standing) (maps more : Tables) (changes others : List Change) → is_early standing ≡ true → place_of standing maps changes ≡ place_of standing more others
-place_early Front maps more changes others h = refl
-place_early (Between first) maps more changes others h = refl
-place_early (Named g size) maps more changes others h = absurd (cc)
-place_early (Inside g size) maps more changes others h = absurd (cc)
+place_early : (standing : Standing) (maps more : Tables) (work later : Work) → is_early standing ≡ true → place_of standing maps work ≡ place_of standing more later
+place_early Front maps more work later h = refl
+place_early (Between first) maps more work later h = refl
+place_early (Named g size) maps more work later h = absurd (cc)
+place_early (Inside g size) maps more work later h = absurd (cc)
 
-state_early : (base base2 known known2 : Position) (standing : Standing) (maps more : Tables) (changes others : List Change) → base ≡ base2 → known ≡ known2 → is_early standing ≡ true →
-    ◌≡◌ {A = State Tables} (record { base = base; entries = []; known = known; place = place_of standing maps changes }) (record { base = base2; entries = []; known = known2; place = place_of standing more others })
-state_early base base2 known known2 standing maps more changes others b k h =
-    ap (λ z. record { base = z; entries = []; known = known; place = place_of standing maps changes }) b
-    ∙ ap (λ z. record { base = base2; entries = []; known = z; place = place_of standing maps changes }) k
-    ∙ ap (λ z. record { base = base2; entries = []; known = known2; place = z }) (place_early standing maps more changes others h)
+state_early : (base base2 known known2 : Position) (standing : Standing) (maps more : Tables) (work later : Work) → base ≡ base2 → known ≡ known2 → is_early standing ≡ true →
+    ◌≡◌ {A = State Tables} (record { base = base; entries = []; known = known; place = place_of standing maps work }) (record { base = base2; entries = []; known = known2; place = place_of standing more later })
+state_early base base2 known known2 standing maps more work later b k h =
+    ap (λ z. record { base = z; entries = []; known = known; place = place_of standing maps work }) b
+    ∙ ap (λ z. record { base = base2; entries = []; known = z; place = place_of standing maps work }) k
+    ∙ ap (λ z. record { base = base2; entries = []; known = known2; place = z }) (place_early standing maps more work later h)
 
 -- a walk that is put back where it began
 pub front_back : (rules : Rules Tables) (bytes : List ℕ) (first now : Walk) → is_early first.progress.standing ≡ true → first.given ≡ 0 → IsEarly rules bytes first now →
@@ -51,7 +51,7 @@ front_back rules bytes first now e g f = record {
   begun = refl;
   given = f.given ∙ sym g;
   standing = refl;
-  state = state_early now.progress.base first.progress.base now.progress.known first.progress.known first.progress.standing now.progress.maps first.progress.maps now.progress.changes first.progress.changes f.base f.known e;
+  state = state_early now.progress.base first.progress.base now.progress.known first.progress.known first.progress.standing now.progress.maps first.progress.maps (work_in now.progress) (work_in first.progress) f.base f.known e;
 }
 
 stands_back : (rules : Rules Tables) (bytes : List ℕ) (old new : Walk) → IsBack old new → Stands rules bytes old → Stands rules bytes new

@@ -2,7 +2,7 @@
 use Rattle.std.proofs.Common.{◌≡◌, ◌≤◌, ◌<◌, ◌+◌, ℕ, Bool, true, false, List, [], ◌∷◌, ◌++◌, length, drop, Option, Some, None, Result, Ok, Err, refl, ap, sym, subst, ◌∙◌, arith, append-nil, append_assoc, length-append, length-drop}
 use Rattle.std.specs.Prelude.{◌⊎◌, IsSomeAnd}
 use Rattle.std.proofs.lemmas.List.{append_cancel_left, drop-append-le}
-use Rattle.vs_base.specs.declared.change.Change.{Change}
+use Rattle.vs_gtid.specs.declared.Work.{Work}
 use Rattle.vs_base.specs.declared.Gtid.{Gtid}
 use Rattle.vs_rows.specs.Tables.{Tables}
 use Rattle.vs_base.specs.declared.Why.{Why}
@@ -19,7 +19,7 @@ use Rattle.vs_log.specs.Laws.{OpensOrEnds}
 use Rattle.vs_log.specs.Table.{Rules, step}
 use Rattle.vs_entries.specs.Laws.{LogLaws}
 use Rattle.vs_entries.specs.Pieces.{IsBehind}
-use Rattle.vs_entries.specs.Reading.{IsFrontEvent, is_early, is_refused, place_of, state_of, with_entries}
+use Rattle.vs_entries.specs.Reading.{IsFrontEvent, is_early, is_refused, place_of, state_of, with_entries, work_in}
 use Rattle.vs_entries.specs.Walks.{IsBegunAt, IsEarly, IsFresh, IsLeft, IsMoved, IsStuck, IsWalk, ReadsEnd, ReadsNext, Stands, begun_after}
 use Rattle.vs_entries.specs.declared.standing.Standing.{Standing}
 use Rattle.vs_entries.specs.declared.standing.Standing.TheVariants.{Front, Between, Named, Inside}
@@ -55,7 +55,7 @@ fresh_stands laws rules bytes walk f h l = record {
   begun = begun walk.progress.standing (ap (λ (s : State Tables). open_gtid s.place) f.progress);
 }
   where
-    begun : (standing : Standing) → open_gtid (place_of standing walk.progress.maps walk.progress.changes) ≡ None → IsBegunAt rules bytes standing walk.begun
+    begun : (standing : Standing) → open_gtid (place_of standing walk.progress.maps (work_in walk.progress)) ≡ None → IsBegunAt rules bytes standing walk.begun
     begun Front h = tt
     begun (Between first) h = tt
     begun (Named g size) h = absurd (cc)
@@ -93,31 +93,31 @@ stopped rules at s rest e (Some w) f h = rw f.held (rw (← f.bytes) (rw h refl)
 
 -- ---- one event more
 
-begun_at : (rules : Rules Tables) (bytes : List ℕ) (standing : Standing) (maps : Tables) (changes : List Change) (at : ℕ) →
-    ((g : Gtid) → open_gtid (place_of standing maps changes) ≡ Some g → StandsAt rules bytes g at) → IsBegunAt rules bytes standing at
-begun_at rules bytes Front maps changes at h = tt
-begun_at rules bytes (Between first) maps changes at h = tt
-begun_at rules bytes (Named g size) maps changes at h = h g refl
-begun_at rules bytes (Inside g size) maps changes at h = h g refl
+begun_at : (rules : Rules Tables) (bytes : List ℕ) (standing : Standing) (maps : Tables) (work : Work) (at : ℕ) →
+    ((g : Gtid) → open_gtid (place_of standing maps work) ≡ Some g → StandsAt rules bytes g at) → IsBegunAt rules bytes standing at
+begun_at rules bytes Front maps work at h = tt
+begun_at rules bytes (Between first) maps work at h = tt
+begun_at rules bytes (Named g size) maps work at h = h g refl
+begun_at rules bytes (Inside g size) maps work at h = h g refl
 
-begun_of : (rules : Rules Tables) (bytes : List ℕ) (standing : Standing) (maps : Tables) (changes : List Change) (at : ℕ) (g : Gtid) → IsBegunAt rules bytes standing at →
-    open_gtid (place_of standing maps changes) ≡ Some g → StandsAt rules bytes g at
-begun_of rules bytes Front maps changes at g b h = absurd (cc)
-begun_of rules bytes (Between first) maps changes at g b h = absurd (cc)
-begun_of rules bytes (Named x size) maps changes at g b h = let e : x ≡ g = cc in subst (λ z. StandsAt rules bytes z at) e b
-begun_of rules bytes (Inside x size) maps changes at g b h = let e : x ≡ g = cc in subst (λ z. StandsAt rules bytes z at) e b
+begun_of : (rules : Rules Tables) (bytes : List ℕ) (standing : Standing) (maps : Tables) (work : Work) (at : ℕ) (g : Gtid) → IsBegunAt rules bytes standing at →
+    open_gtid (place_of standing maps work) ≡ Some g → StandsAt rules bytes g at
+begun_of rules bytes Front maps work at g b h = absurd (cc)
+begun_of rules bytes (Between first) maps work at g b h = absurd (cc)
+begun_of rules bytes (Named x size) maps work at g b h = let e : x ≡ g = cc in subst (λ z. StandsAt rules bytes z at) e b
+begun_of rules bytes (Inside x size) maps work at g b h = let e : x ≡ g = cc in subst (λ z. StandsAt rules bytes z at) e b
 
-none_open : (standing : Standing) (maps : Tables) (changes : List Change) (at begun : ℕ) → open_gtid (place_of standing maps changes) ≡ None → begun_after standing at begun ≡ at
-none_open Front maps changes at begun h = refl
-none_open (Between first) maps changes at begun h = refl
-none_open (Named x size) maps changes at begun h = absurd (cc)
-none_open (Inside x size) maps changes at begun h = absurd (cc)
+none_open : (standing : Standing) (maps : Tables) (work : Work) (at begun : ℕ) → open_gtid (place_of standing maps work) ≡ None → begun_after standing at begun ≡ at
+none_open Front maps work at begun h = refl
+none_open (Between first) maps work at begun h = refl
+none_open (Named x size) maps work at begun h = absurd (cc)
+none_open (Inside x size) maps work at begun h = absurd (cc)
 
-still_open : (standing : Standing) (maps : Tables) (changes : List Change) (at begun : ℕ) (g : Gtid) → open_gtid (place_of standing maps changes) ≡ Some g → begun_after standing at begun ≡ begun
-still_open Front maps changes at begun g h = absurd (cc)
-still_open (Between first) maps changes at begun g h = absurd (cc)
-still_open (Named x size) maps changes at begun g h = refl
-still_open (Inside x size) maps changes at begun g h = refl
+still_open : (standing : Standing) (maps : Tables) (work : Work) (at begun : ℕ) (g : Gtid) → open_gtid (place_of standing maps work) ≡ Some g → begun_after standing at begun ≡ begun
+still_open Front maps work at begun g h = absurd (cc)
+still_open (Between first) maps work at begun g h = absurd (cc)
+still_open (Named x size) maps work at begun g h = refl
+still_open (Inside x size) maps work at begun g h = refl
 
 -- the log with the event that was taken
 record IsOn (rules : Rules Tables) (bytes : List ℕ) (old new : Walk) (s : Stands rules bytes old) (entries : List Entry) : Type 0 where
@@ -137,16 +137,16 @@ begun_on : (rules : Rules Tables) (bytes : List ℕ) (old new : Walk) (entries :
     (before : Option Gtid) → open_gtid (state_of old.progress).place ≡ before → OpensOrEnds rules bytes old.at (state_with s.past old) (state_with (s.past ++ entries) new) before →
     IsBegunAt rules bytes new.progress.standing new.begun
 begun_on rules bytes old new entries s begun None none opens =
-    begun_at rules bytes new.progress.standing new.progress.maps new.progress.changes new.begun (λ g h.
-    subst (λ z. StandsAt rules bytes g z) (sym (begun ∙ none_open old.progress.standing old.progress.maps old.progress.changes old.at old.begun none)) (opens.0 g h))
+    begun_at rules bytes new.progress.standing new.progress.maps (work_in new.progress) new.begun (λ g h.
+    subst (λ z. StandsAt rules bytes g z) (sym (begun ∙ none_open old.progress.standing old.progress.maps (work_in old.progress) old.at old.begun none)) (opens.0 g h))
 begun_on rules bytes old new entries s begun (Some g) some (◌⊎◌.inl goes) =
-    begun_at rules bytes new.progress.standing new.progress.maps new.progress.changes new.begun (λ x h.
+    begun_at rules bytes new.progress.standing new.progress.maps (work_in new.progress) new.begun (λ x h.
     let e : g ≡ x = (let k : Some g ≡ Some x = sym goes.0 ∙ h in cc) in
     subst (λ z. StandsAt rules bytes z new.begun) e
-    (subst (λ z. StandsAt rules bytes g z) (sym (begun ∙ still_open old.progress.standing old.progress.maps old.progress.changes old.at old.begun g some))
-    (begun_of rules bytes old.progress.standing old.progress.maps old.progress.changes old.begun g s.begun some)))
+    (subst (λ z. StandsAt rules bytes g z) (sym (begun ∙ still_open old.progress.standing old.progress.maps (work_in old.progress) old.at old.begun g some))
+    (begun_of rules bytes old.progress.standing old.progress.maps (work_in old.progress) old.begun g s.begun some)))
 begun_on rules bytes old new entries s begun (Some g) some (◌⊎◌.inr ends) =
-    begun_at rules bytes new.progress.standing new.progress.maps new.progress.changes new.begun (λ x h. let k : ◌≡◌ {A = Option Gtid} None (Some x) = sym ends.0 ∙ h in absurd (cc))
+    begun_at rules bytes new.progress.standing new.progress.maps (work_in new.progress) new.begun (λ x h. let k : ◌≡◌ {A = Option Gtid} None (Some x) = sym ends.0 ∙ h in absurd (cc))
 
 -- the walk stands for the events with the one that was taken
 pub stands_on : (laws : LogLaws) (rules : Rules Tables) (bytes : List ℕ) (old new : Walk) (entries : List Entry) → length entries ≤ 1 → Stands rules bytes old → IsMoved rules bytes old new entries → Stands rules bytes new
@@ -175,8 +175,8 @@ given_at rules bytes old new e s begun (Some g) some (◌⊎◌.inr ends) =
     let one : e ≡ x.0 = cc in
     let g_is : g ≡ e.gtid = sym x.2 ∙ ap (λ (z : Entry). z.gtid) (sym one) in
     subst (λ z. StandsAt rules bytes z new.begun) g_is
-    (subst (λ z. StandsAt rules bytes g z) (sym (begun ∙ still_open old.progress.standing old.progress.maps old.progress.changes old.at old.begun g some))
-    (begun_of rules bytes old.progress.standing old.progress.maps old.progress.changes old.begun g s.begun some))
+    (subst (λ z. StandsAt rules bytes g z) (sym (begun ∙ still_open old.progress.standing old.progress.maps (work_in old.progress) old.at old.begun g some))
+    (begun_of rules bytes old.progress.standing old.progress.maps (work_in old.progress) old.begun g s.begun some))
 
 -- the entry that ends is the next one of the log
 pub gives : (laws : LogLaws) (rules : Rules Tables) (bytes : List ℕ) (old new : Walk) (e : Entry) → Stands rules bytes old → IsMoved rules bytes old new (e ∷ []) → ReadsNext rules bytes old new e
@@ -216,40 +216,40 @@ left_there laws rules bytes walk (Some why) h = tt
 
 -- ---- whether the base is known
 
-late : (standing : Standing) (maps : Tables) (changes : List Change) → is_early standing ≡ false → is_base_known (place_of standing maps changes) None ≡ true
-late Front maps changes h = absurd (cc)
-late (Between true) maps changes h = absurd (cc)
-late (Between false) maps changes h = refl
-late (Named g size) maps changes h = refl
-late (Inside g size) maps changes h = refl
+late : (standing : Standing) (maps : Tables) (work : Work) → is_early standing ≡ false → is_base_known (place_of standing maps work) None ≡ true
+late Front maps work h = absurd (cc)
+late (Between true) maps work h = absurd (cc)
+late (Between false) maps work h = refl
+late (Named g size) maps work h = refl
+late (Inside g size) maps work h = refl
 
-unknown : (standing : Standing) (maps : Tables) (changes : List Change) → is_base_known (place_of standing maps changes) None ≡ true → is_early standing ≡ false
-unknown Front maps changes h = absurd (cc)
-unknown (Between true) maps changes h = absurd (cc)
-unknown (Between false) maps changes h = refl
-unknown (Named g size) maps changes h = refl
-unknown (Inside g size) maps changes h = refl
+unknown : (standing : Standing) (maps : Tables) (work : Work) → is_base_known (place_of standing maps work) None ≡ true → is_early standing ≡ false
+unknown Front maps work h = absurd (cc)
+unknown (Between true) maps work h = absurd (cc)
+unknown (Between false) maps work h = refl
+unknown (Named g size) maps work h = refl
+unknown (Inside g size) maps work h = refl
 
 -- once it isn't early any more, it stays so
 pub stays_late : (laws : LogLaws) (rules : Rules Tables) (bytes : List ℕ) (old new : Walk) (entries : List Entry) → IsMoved rules bytes old new entries → is_early old.progress.standing ≡ false → is_early new.progress.standing ≡ false
 stays_late laws rules bytes old new entries m h =
-    unknown new.progress.standing new.progress.maps new.progress.changes
-    ((laws.steps rules).known old.at (state_of old.progress) _ (drop old.at bytes) (late old.progress.standing old.progress.maps old.progress.changes h) m.next)
+    unknown new.progress.standing new.progress.maps (work_in new.progress)
+    ((laws.steps rules).known old.at (state_of old.progress) _ (drop old.at bytes) (late old.progress.standing old.progress.maps (work_in old.progress) h) m.next)
 
 -- the base that was taken is the log's
 pub base_late : (laws : LogLaws) (rules : Rules Tables) (bytes : List ℕ) (walk : Walk) → Stands rules bytes walk → is_early walk.progress.standing ≡ false →
     (knows_base rules bytes ≡ true) × ((log_meant rules bytes).base ≡ walk.progress.base)
-base_late laws rules bytes walk s h = (laws.steps rules).base bytes walk.at (state_with s.past walk) s.reaches (late walk.progress.standing walk.progress.maps walk.progress.changes h)
+base_late laws rules bytes walk s h = (laws.steps rules).base bytes walk.at (state_with s.past walk) s.reaches (late walk.progress.standing walk.progress.maps (work_in walk.progress) h)
 
 pub base_stuck : (laws : LogLaws) (rules : Rules Tables) (bytes : List ℕ) (walk : Walk) → IsStuck rules bytes walk → (log_meant rules bytes).base ≡ walk.progress.base
 base_stuck laws rules bytes walk s = ap (λ (z : Log). z.base) (ends_so laws rules bytes walk (Some s.why) s.stands s.refused).log
 
-known_first : (standing : Standing) (maps : Tables) (changes : List Change) (why : Why) → standing ≡ Between true → is_base_known (place_of standing maps changes) (Some why) ≡ true
-known_first standing maps changes why h = ap (λ z. is_base_known (place_of z maps changes) (Some why)) h
+known_first : (standing : Standing) (maps : Tables) (work : Work) (why : Why) → standing ≡ Between true → is_base_known (place_of standing maps work) (Some why) ≡ true
+known_first standing maps work why h = ap (λ z. is_base_known (place_of z maps work) (Some why)) h
 
 pub knows_stuck : (laws : LogLaws) (rules : Rules Tables) (bytes : List ℕ) (walk : Walk) → IsStuck rules bytes walk → knows_base rules bytes ≡ true
 knows_stuck laws rules bytes walk s =
-    (ends_so laws rules bytes walk (Some s.why) s.stands s.refused).base ∙ known_first walk.progress.standing walk.progress.maps walk.progress.changes s.why s.first
+    (ends_so laws rules bytes walk (Some s.why) s.stands s.refused).base ∙ known_first walk.progress.standing walk.progress.maps (work_in walk.progress) s.why s.first
 
 -- the walk ends early: the base is known where the event there was refused behind the format description
 pub ends_early : (laws : LogLaws) (rules : Rules Tables) (bytes : List ℕ) (walk : Walk) (why : Option Why) → Stands rules bytes walk → next_state rules walk.at (state_of walk.progress) (drop walk.at bytes) ≡ Err why →
@@ -393,18 +393,18 @@ comes_to_nothing laws rules bytes old now new g same =
 
 -- ---- a walk up to the first event that tells of the base
 
-unknown_there : (standing : Standing) (maps : Tables) (changes : List Change) → is_early standing ≡ true → is_base_known (place_of standing maps changes) None ≡ false
-unknown_there Front maps changes h = refl
-unknown_there (Between true) maps changes h = refl
-unknown_there (Between false) maps changes h = absurd (cc)
-unknown_there (Named g size) maps changes h = absurd (cc)
-unknown_there (Inside g size) maps changes h = absurd (cc)
+unknown_there : (standing : Standing) (maps : Tables) (work : Work) → is_early standing ≡ true → is_base_known (place_of standing maps work) None ≡ false
+unknown_there Front maps work h = refl
+unknown_there (Between true) maps work h = refl
+unknown_there (Between false) maps work h = absurd (cc)
+unknown_there (Named g size) maps work h = absurd (cc)
+unknown_there (Inside g size) maps work h = absurd (cc)
 
 -- no set changes before the base is known
 sets_stay : (laws : LogLaws) (rules : Rules Tables) (bytes : List ℕ) (old new : Walk) → IsMoved rules bytes old new [] → is_early new.progress.standing ≡ true →
     (new.progress.base ≡ old.progress.base) × (new.progress.known ≡ old.progress.known)
 sets_stay laws rules bytes old new m h =
-    (laws.steps rules).early old.at (state_of old.progress) (with_entries [] (state_of new.progress)) (drop old.at bytes) m.next (unknown_there new.progress.standing new.progress.maps new.progress.changes h)
+    (laws.steps rules).early old.at (state_of old.progress) (with_entries [] (state_of new.progress)) (drop old.at bytes) m.next (unknown_there new.progress.standing new.progress.maps (work_in new.progress) h)
 
 pub front_on : (laws : LogLaws) (rules : Rules Tables) (bytes : List ℕ) (first old new : Walk) → IsEarly rules bytes first old → IsMoved rules bytes old new [] → is_early new.progress.standing ≡ true → IsEarly rules bytes first new
 front_on laws rules bytes first old new f m h =
@@ -436,7 +436,7 @@ front_stops laws rules bytes first walk why f h = record {
   stuck = λ k. stuck walk.progress.standing why refl f.early k h;
 }
   where
-    same : (standing : Standing) (why : Option Why) → is_early standing ≡ true → is_base_known (place_of standing walk.progress.maps walk.progress.changes) why ≡ is_refused standing why
+    same : (standing : Standing) (why : Option Why) → is_early standing ≡ true → is_base_known (place_of standing walk.progress.maps (work_in walk.progress)) why ≡ is_refused standing why
     same Front why e = refl
     same (Between true) None e = refl
     same (Between true) (Some w) e = refl
@@ -481,7 +481,7 @@ front_stopped laws rules bytes first old new why refused f h same r =
 
 fresh_early : (walk : Walk) → IsFresh walk → is_early walk.progress.standing ≡ true
 fresh_early walk f = go walk.progress.standing (ap (λ (s : State Tables). s.place) f.progress) where
-  go : (standing : Standing) → place_of standing walk.progress.maps walk.progress.changes ≡ place.Front → is_early standing ≡ true
+  go : (standing : Standing) → place_of standing walk.progress.maps (work_in walk.progress) ≡ place.Front → is_early standing ≡ true
   go Front h = refl
   go (Between first) h = absurd (cc)
   go (Named g size) h = absurd (cc)

@@ -1,4 +1,5 @@
 pub mod Queries
+pub mod JournalRows
 pub mod Rules
 pub mod Laws
 pub mod Reading

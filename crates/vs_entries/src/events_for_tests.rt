@@ -170,6 +170,26 @@ pub const OTHERS: &[u8] = b"\0\0\0\0\x1e\0\0\0\0\x2f\0\0\0\0\0\0\0\0\0\
 pub const OURS_DELETED: &[u8] = b"\0\0\0\0\x20\0\0\0\0\x2f\0\0\0\0\0\0\0\0\0\
     \t\0\0\0\0\0\x01\0\x02\0\x03\x07\0\x07\0\0\0\0\0\0\0\x04vt_c\0\0";
 
+/// Inserts into table 9 for the keyspace c: two rows with no text, a text that is cut, one behind a row with
+/// no text, and journal 7, a split of c/-80.
+pub const TWO_OURS: &[u8] = b"\0\0\0\0\x1e\0\0\0\0\x3f\0\0\0\0\0\0\0\0\0\
+    \t\0\0\0\0\0\x01\0\x02\0\x03\x07\
+    \0\x07\0\0\0\0\0\0\0\x04vt_c\0\0\
+    \0\x07\0\0\0\0\0\0\0\x04vt_c\0\0";
+
+pub const OURS_CUT: &[u8] = b"\0\0\0\0\x1e\0\0\0\0\x32\0\0\0\0\0\0\0\0\0\
+    \t\0\0\0\0\0\x01\0\x02\0\x03\x07\
+    \0\x07\0\0\0\0\0\0\0\x04vt_c\x03\0id:";
+
+pub const OURS_CUT_SECOND: &[u8] = b"\0\0\0\0\x1e\0\0\0\0\x42\0\0\0\0\0\0\0\0\0\
+    \t\0\0\0\0\0\x01\0\x02\0\x03\x07\
+    \0\x07\0\0\0\0\0\0\0\x04vt_c\0\0\
+    \0\x07\0\0\0\0\0\0\0\x04vt_c\x03\0id:";
+
+pub const OURS_OF_SPLIT: &[u8] = b"\0\0\0\0\x1e\0\0\0\0\x2d\x01\0\0\0\0\0\0\0\0\
+    \t\0\0\0\0\0\x01\0\x02\0\x03\x07\
+    \0\x07\0\0\0\0\0\0\0\x04vt_c\xfe\0id:7 migration_type:SHARDS shard_gtids:{keyspace:\"c\" shard:\"-40\" gtid:\"MySQL56/00000000-0000-0000-0000-00000000000b:1\"} shard_gtids:{keyspace:\"c\" shard:\"40-80\" gtid:\"MySQL56/00000000-0000-0000-0000-00000000000d:1\"} participants:{keyspace:\"c\" shard:\"-80\"}";
+
 /// A head with 18 as its length.
 pub const SHORT_HEAD: &[u8] = b"\0\0\0\0\x02\0\0\0\0\x12\0\0\0\0\0\0\0\0\0";
 

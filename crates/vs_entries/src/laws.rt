@@ -1,4 +1,4 @@
-ghost use Rattle.vs_entries.specs.Laws.{BoundsParts, LogLaws, NeverReadsJournals};
+ghost use Rattle.vs_entries.specs.Laws.{BoundsParts, LogLaws};
 
 use vs_log::{law_base, law_changes, law_entries, law_growth, law_meaning, law_steps};
 use vs_rows::Maps;
@@ -14,14 +14,6 @@ pub fn laws()
     law_steps::<Maps>();
     law_entries::<Maps>();
     law_changes();
-}
-
-/// No entry that is read is a journal: one of the keyspace is refused where its rows stand.
-#[inline(always)]
-pub fn law_no_journals()
-    ensures { NeverReadsJournals }
-{
-    laws();
 }
 
 /// Less than an event is less than 64 MiB, and with a piece of at most 65,536 bytes less than both.

@@ -1,8 +1,8 @@
 //! Reads the bytes of a shard's log, however they come: its base, its transactions, and what is wrong
 //! with it.
 //!
-//! A log is a binlog file of MySQL, version 4. A journal of the keyspace is refused as not built, where
-//! its rows stand.
+//! A log is a binlog file of MySQL, version 4. A row that is inserted into Vitess' table of journals makes
+//! its transaction a journal.
 #![tactic(auto)]
 
 mod body;
@@ -27,6 +27,6 @@ mod took;
 mod walk;
 mod window;
 
-pub use laws::{law_no_journals, law_part};
+pub use laws::law_part;
 pub use reader::Reader;
 pub use took::{LogRefusal, Took};

@@ -1,10 +1,12 @@
 //! What the events of a log, from the first on, have come to.
-ghost use Rattle.std.specs.Prelude.{◌≡◌, ◌≤◌, ◌+◌, ◌++◌, IfOk, Ok, OnErr, OnOk, length, true};
+ghost use Rattle.std.specs.Prelude.{◌≡◌, ◌≤◌, ◌+◌, ◌++◌, IfOk, IsSome, Ok, OnErr, OnOk, Some, length, map, true};
+ghost use Rattle.vs_base.specs.declared.Why.TheVariants.{JournalNotAlone};
 ghost use Rattle.vs_binlog.specs.Heads.{length_of};
 ghost use Rattle.vs_log.specs.Events.{last_place, limit, sort_of};
 ghost use Rattle.vs_log.specs.Meaning.{front, head_refusal};
 ghost use Rattle.vs_rows.specs.Tables.{Tables};
 ghost use Rattle.vs_log.specs.Table.{bytes_with, ended, line, size, step};
+ghost use Rattle.vs_entries.specs.declared.out.Stop.TheVariants.{Wrong};
 
 use crate::body::{format_fault, named_gtid, read_base};
 use crate::event::{body_of, misplaced, sort_in};
@@ -12,14 +14,14 @@ use crate::front::LAST_PLACE;
 use crate::kind::StatementKind;
 use crate::out::{Out, Stop, Turn};
 use crate::query::read_statement;
-use crate::row::{read_rows, refused};
+use crate::row::{Added, read_rows, refused};
 use crate::standing::Standing;
 use std::alloc::Global;
 use std::mem::replace;
 use vs_base::{Change, Gtid, List, OutOfMemory, Text, Why};
 use vs_binlog::{Step, next_event, read_head};
 use vs_gtid::{GtidRefusal, GtidSet};
-use vs_journal::{Entry, Work};
+use vs_journal::{Entry, JournalValue, Work};
 use vs_log::{LIMIT, Sort, law_changes};
 use vs_rows::Maps;
 use vs_schema::Schema;
@@ -35,6 +37,8 @@ pub struct Progress {
     pub maps: Maps,
     /// the changes of the open transaction
     pub changes: List<Change>,
+    /// the journal that is all its work
+    pub journal: Option<JournalValue>,
 }
 
 /// Appends changes to those of a transaction, or leaves them as they were.
@@ -53,14 +57,26 @@ fn append_changes(
     appended
 }
 
+/// Leaves in the `Out` that a journal stands beside something else that counts.
+fn not_alone(out: &mut Out) -> Stop
+    ensures stop { result ≡ Wrong }
+    ensures why { out.new.why ≡ Some JournalNotAlone }
+{
+    out.why = Some(Why::JournalNotAlone);
+    Stop::Wrong
+}
+
 impl Progress {
     ghost use Rattle.vs_log.specs.States.Place.{Between, Front, Inside, Named};
-    ghost use Rattle.vs_gtid.specs.declared.entry.Work.TheVariants.{Rows};
+    ghost use Rattle.vs_log.specs.States.Counted.{Changed, Journaled};
     ghost use Rattle.vs_entries.specs.declared.out.Turn.TheVariants.{Goes};
     ghost use Rattle.vs_entries.specs.Reading.{
+      Adds,
       MovesTo,
       TakesTo,
       any_rules,
+      counted_in,
+      has_no_work,
       is_early,
       no_schema,
       state_of,
@@ -71,6 +87,7 @@ impl Progress {
       with_rows,
       with_table_map,
       with_xid,
+      work_in,
     };
     ghost use Rattle.vs_entries.specs.Rules.{rules_of};
 
@@ -83,6 +100,7 @@ impl Progress {
             standing: Standing::Front,
             maps: Maps::new(alloc),
             changes: List::new(alloc),
+            journal: None,
         }
     }
 
@@ -269,8 +287,8 @@ impl Progress {
     ) -> Result<Turn, Stop>
         requires head { 19 ≤ length event.now }
         requires kind { sort ≡ sort_of event.now }
-        requires size { bytes_with (Inside gtid bytes self.old.maps (Rows self.old.changes)) event.now ≤ limit }
-        ensures { TakesTo result self.old self.new out.new (line (rules_of keyspace.now schema.now) (state_of self.old) event.now (Inside gtid bytes self.old.maps (Rows self.old.changes)) (sort_of event.now)) }
+        requires size { bytes_with (Inside gtid bytes self.old.maps (work_in self.old)) event.now ≤ limit }
+        ensures { TakesTo result self.old self.new out.new (line (rules_of keyspace.now schema.now) (state_of self.old) event.now (Inside gtid bytes self.old.maps (work_in self.old)) (sort_of event.now)) }
     {
         match sort {
             Sort::PassedOver => Ok(Turn::Goes),
@@ -362,6 +380,7 @@ impl Progress {
             StatementKind::Begin => {
                 self.maps.clear();
                 self.changes = List::new(alloc);
+                self.journal = None;
                 self.standing = Standing::Inside {
                     gtid,
                     bytes: bytes + read_head(event).length,
@@ -394,7 +413,7 @@ impl Progress {
     ) -> Result<Turn, Stop>
         requires head { 19 ≤ length event.now }
         requires size { bytes + length_of event.now ≤ limit }
-        ensures { TakesTo result self.old self.new out.new (with_later_query keyspace.now (state_of self.old) event.now gtid bytes self.old.maps self.old.changes) }
+        ensures { TakesTo result self.old self.new out.new (with_later_query keyspace.now (state_of self.old) event.now gtid bytes self.old.maps (work_in self.old)) }
     {
         let Some(told) = read_statement(body_of(event), keyspace) else {
             out.why = Some(Why::BadEvent { kind: 2 });
@@ -429,7 +448,7 @@ impl Progress {
         out: &mut Out,
     ) -> Result<Turn, Stop>
         requires { 19 ≤ length event.now }
-        ensures { TakesTo result self.old self.new out.new (with_xid (state_of self.old) event.now gtid self.old.changes) }
+        ensures { TakesTo result self.old self.new out.new (with_xid (state_of self.old) event.now gtid (work_in self.old)) }
     {
         if body_of(event).len() < 8 {
             out.why = Some(Why::BadEvent { kind: 16 });
@@ -450,7 +469,7 @@ impl Progress {
     ) -> Result<(), Stop>
         requires head { 19 ≤ length event.now }
         requires size { bytes + length_of event.now ≤ limit }
-        ensures { MovesTo result self.old self.new out.new (with_table_map keyspace.now schema.now (state_of self.old) event.now gtid bytes self.old.maps self.old.changes) }
+        ensures { MovesTo result self.old self.new out.new (with_table_map keyspace.now schema.now (state_of self.old) event.now gtid bytes self.old.maps (work_in self.old)) }
     {
         match self.maps.put(body_of(event), schema, keyspace) {
             Ok(()) => {
@@ -476,15 +495,14 @@ impl Progress {
     ) -> Result<(), Stop>
         requires head { 19 ≤ length event.now }
         requires size { bytes + length_of event.now ≤ limit }
-        ensures { MovesTo result self.old self.new out.new (with_rows keyspace.now (state_of self.old) event.now gtid bytes self.old.maps self.old.changes) }
+        ensures { MovesTo result self.old self.new out.new (with_rows keyspace.now (state_of self.old) event.now gtid bytes self.old.maps (work_in self.old)) }
     {
-        law_changes();
         let kind = read_head(event).kind;
-        let more = match read_rows(alloc, &self.maps, kind, body_of(event), keyspace) {
-            Ok(more) => more,
+        let added = match read_rows(alloc, &self.maps, kind, body_of(event), keyspace) {
+            Ok(added) => added,
             Err(refusal) => return Err(refusal.leave_in(out)),
         };
-        append_changes(alloc, &mut self.changes, more)?;
+        self.add(alloc, added, out)?;
         self.standing = Standing::Inside {
             gtid,
             bytes: bytes + read_head(event).length,
@@ -492,11 +510,72 @@ impl Progress {
         Ok(())
     }
 
+    /// Adds what counts of a rows event to the work of the open transaction, or leaves all as it was.
+    fn add(&mut self, alloc: Global, added: Added, out: &mut Out) -> Result<(), Stop>
+        ensures { Adds result self.old self.new out.new (counted_in added) }
+    {
+        match added {
+            Added::Changes(changes) => self.add_changes(alloc, changes, out),
+            Added::Journals(journals) => self.add_journals(journals, out),
+        }
+    }
+
+    /// Adds changes. They can't stand beside a journal.
+    #[tactic(auto, using(crate::proofs::JournalLemmas::changes_refused))]
+    fn add_changes(
+        &mut self,
+        alloc: Global,
+        changes: List<Change>,
+        out: &mut Out,
+    ) -> Result<(), Stop>
+        ensures { Adds result self.old self.new out.new (map Changed changes) }
+    {
+        law_changes();
+        if self.journal.is_some() {
+            if changes.as_slice().is_empty() {
+                return Ok(());
+            }
+            return Err(not_alone(out));
+        }
+        append_changes(alloc, &mut self.changes, changes)?;
+        Ok(())
+    }
+
+    /// Whether nothing counted yet in the open transaction.
+    fn has_no_work(&self) -> bool
+        ensures { result ≡ has_no_work (work_in self.now) }
+    {
+        self.journal.is_none() && self.changes.as_slice().is_empty()
+    }
+
+    /// Adds journals, of which a transaction has one at most, and then no change.
+    #[inline(never)]
+    #[tactic(auto, using(crate::proofs::JournalLemmas::journals_refused))]
+    fn add_journals(&mut self, journals: List<JournalValue>, out: &mut Out) -> Result<(), Stop>
+        ensures { Adds result self.old self.new out.new (map Journaled journals) }
+    {
+        let mut journals = journals.into_vec();
+        let Some(journal) = journals.pop() else {
+            return Ok(());
+        };
+        if !journals.is_empty() {
+            return Err(not_alone(out));
+        }
+        if !self.has_no_work() {
+            return Err(not_alone(out));
+        }
+        self.journal = Some(journal);
+        Ok(())
+    }
+
     /// Ends the open transaction with its last event.
     fn end_transaction(&mut self, alloc: Global, event: &[u8], gtid: Gtid, out: &mut Out) -> Turn
         requires { 19 ≤ length event.now }
-        ensures { TakesTo (Ok result) self.old self.new out.new (Ok (ended (state_of self.old) event.now gtid (Rows self.old.changes))) }
+        ensures { TakesTo (Ok result) self.old self.new out.new (Ok (ended (state_of self.old) event.now gtid (work_in self.old))) }
     {
+        if self.journal.is_some() {
+            return self.end_journal(event, gtid, out);
+        }
         let changes = replace(&mut self.changes, List::new(alloc));
         self.standing = Standing::Between { first: false };
         out.entry = Some(Entry {
@@ -505,6 +584,20 @@ impl Progress {
             work: Work::Rows(changes),
         });
         Turn::Ends
+    }
+
+    /// Ends the open transaction, whose work is a journal.
+    #[inline(never)]
+    fn end_journal(&mut self, event: &[u8], gtid: Gtid, out: &mut Out) -> Turn
+        requires head { 19 ≤ length event.now }
+        requires journal { IsSome self.old.journal }
+        ensures { TakesTo (Ok result) self.old self.new out.new (Ok (ended (state_of self.old) event.now gtid (work_in self.old))) }
+    {
+        let work = match self.journal.take() {
+            Some(journal) => Work::Journal(journal),
+            None => unreachable!(),
+        };
+        self.end_entry(event, gtid, work, out)
     }
 
     /// Ends the open entry with its last event.

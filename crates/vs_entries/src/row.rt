@@ -1,13 +1,21 @@
 //! What counts of a rows event.
-ghost use Rattle.std.specs.Prelude.{◌≡◌};
-ghost use Rattle.std.specs.List.{list_any};
+ghost use Rattle.std.specs.Prelude.{◌≡◌, MatchOption, None, Some};
 ghost use Rattle.vs_rows.specs.Rows.{rows_meant};
-ghost use Rattle.vs_entries.specs.Reading.{Counts, refusal_of};
-ghost use Rattle.vs_entries.specs.Rules.{counted_by, is_of_keyspace, tells_journal};
+ghost use Rattle.vs_rows.specs.declared.outcome.RowsOf.TheVariants.{Journal as JournalRows};
+ghost use Rattle.vs_entries.specs.JournalRows.{
+  journal_meant,
+  journal_text,
+  journal_texts,
+  journals_meant,
+  text_in,
+};
+ghost use Rattle.vs_entries.specs.Reading.{Answers, Counts, journal_refusal_of, refusal_of};
+ghost use Rattle.vs_entries.specs.Rules.{counted_by, counted_of};
 
 use crate::refusal::Refusal;
 use std::alloc::Global;
 use vs_base::{Cell, Change, List, Why};
+use vs_journal::{JournalRefusal, JournalValue, read_text};
 use vs_rows::{Maps, RowRefusal, RowsOf, is_schema_of};
 
 /// What is told of a table map or a rows event whose body isn't taken. The kind is its type.
@@ -25,53 +33,109 @@ pub fn refused(kind: u8, refusal: RowRefusal) -> Refusal
     }
 }
 
-/// The changes that a rows event adds to its transaction.
+/// What a rows event adds to its transaction.
+#[derive(Debug, Drop)]
+pub enum Added {
+    Changes(List<Change>),
+    /// the keyspace's journals that it inserts
+    Journals(List<JournalValue>),
+}
+
+/// What counts of a rows event.
 pub fn read_rows(
     alloc: Global,
     maps: &Maps,
     kind: u8,
     body: &[u8],
     keyspace: &[u8],
-) -> Result<List<Change>, Refusal>
+) -> Result<Added, Refusal>
     ensures { Counts result (counted_by keyspace.now kind (rows_meant maps.now kind body.now)) }
 {
     match maps.rows(alloc, kind, body) {
-        Ok(RowsOf::Changes(changes)) => Ok(changes),
-        Ok(RowsOf::Passed) => Ok(List::new(alloc)),
-        Ok(RowsOf::Journal(changes)) => {
-            if tell_journal(changes.as_slice(), keyspace) {
-                return Err(Refusal::Wrong(Why::NotBuilt));
-            }
-            Ok(List::new(alloc))
-        }
+        Ok(RowsOf::Changes(changes)) => Ok(Added::Changes(changes)),
+        Ok(RowsOf::Passed) => Ok(Added::Changes(List::new(alloc))),
+        Ok(RowsOf::Journal(changes)) => added_journals(alloc, changes.as_slice(), keyspace),
         Err(refusal) => Err(refused(kind, refusal)),
     }
 }
 
-/// Whether one of the changes of the table of journals inserts a journal of the keyspace.
-fn tell_journal(changes: &[Change], keyspace: &[u8]) -> bool
-    ensures { result ≡ list_any (tells_journal keyspace.now) changes.now }
+/// The journals that changes of the table of journals insert, as what they add to their transaction.
+#[inline(never)]
+fn added_journals(alloc: Global, changes: &[Change], keyspace: &[u8]) -> Result<Added, Refusal>
+    ensures { Counts result (counted_of keyspace.now (JournalRows changes.now)) }
 {
-    changes
-        .iter()
-        .any(|change| inserts_journal(change, keyspace))
-}
-
-fn inserts_journal(change: &Change, keyspace: &[u8]) -> bool
-    ensures { result ≡ tells_journal keyspace.now change.now }
-{
-    match (&change.before, &change.after) {
-        (None, Some(row)) => is_of_keyspace(row.cells(), keyspace),
-        _ => false,
+    match read_journals(alloc, changes, keyspace) {
+        Ok(journals) => Ok(Added::Journals(journals)),
+        Err(refusal) => Err(refusal),
     }
 }
 
-/// Whether the second cell of a row, its db_name, is `vt_` and the keyspace.
-fn is_of_keyspace(row: &[Cell], keyspace: &[u8]) -> bool
-    ensures { result ≡ is_of_keyspace keyspace.now row.now }
+/// The journals of the keyspace that changes of the table of journals insert.
+fn read_journals(
+    alloc: Global,
+    changes: &[Change],
+    keyspace: &[u8],
+) -> Result<List<JournalValue>, Refusal>
+    ensures { Answers result (journals_meant (journal_texts keyspace.now changes.now)) }
+{
+    let mut journals = List::new(alloc);
+    for change in changes {
+        let Some(text) = journal_text(change, keyspace) else {
+            continue;
+        };
+        match read_journal(alloc, text) {
+            Ok(journal) => journals.push(journal)?,
+            Err(refusal) => return Err(refusal),
+        }
+    }
+    Ok(journals)
+}
+
+/// The journal that a text says.
+#[tactic(auto, using(crate::proofs::JournalValues::meant_as_read, crate::proofs::JournalValues::meant_as_refused))]
+fn read_journal(alloc: Global, text: &[u8]) -> Result<JournalValue, Refusal>
+    ensures { Answers result (journal_meant text.now) }
+{
+    match read_text(alloc, text) {
+        Ok(journal) => Ok(journal),
+        Err(refusal) => Err(journal_refused(refusal, text.len())),
+    }
+}
+
+/// What is told of a journal's text of so many bytes that is refused.
+fn journal_refused(refusal: JournalRefusal, size: usize) -> Refusal
+    ensures { result ≡ journal_refusal_of size refusal }
+{
+    let at = match refusal {
+        JournalRefusal::BadJournal { at } => at,
+        JournalRefusal::Memory => return Refusal::Memory,
+        _ => size,
+    };
+    Refusal::Wrong(Why::BadJournal { at })
+}
+
+/// The text of the keyspace's journal that a change of the table of journals inserts.
+fn journal_text<'a>(change: &'a Change, keyspace: &[u8]) -> Option<&'a [u8]>
+    ensures { MatchOption result (journal_text keyspace.now change.now ≡ None) (λ t. journal_text keyspace.now change.now ≡ Some t.now) }
+{
+    match (&change.before, &change.after) {
+        (None, Some(row)) => text_in(row.cells(), keyspace),
+        _ => None,
+    }
+}
+
+/// The text of a row of the table of journals, if its second cell, the db_name, is `vt_` and the
+/// keyspace.
+fn text_in<'a>(row: &'a [Cell], keyspace: &[u8]) -> Option<&'a [u8]>
+    ensures { MatchOption result (text_in keyspace.now row.now ≡ None) (λ t. text_in keyspace.now row.now ≡ Some t.now) }
 {
     match row {
-        [_, Cell::Bytes(name), ..] => is_schema_of(name.as_bytes(), keyspace),
-        _ => false,
+        [_, Cell::Bytes(name), Cell::Bytes(text), ..] => {
+            if is_schema_of(name.as_bytes(), keyspace) {
+                return Some(text.as_bytes());
+            }
+            None
+        }
+        _ => None,
     }
 }

@@ -6,7 +6,7 @@ use crate::front::front_event;
 use crate::kind::StatementKind;
 use crate::progress::Progress;
 use crate::query::kind_of;
-use crate::{LogRefusal, Reader, Took, law_no_journals, law_part};
+use crate::{LogRefusal, Reader, Took, law_part};
 use std::alloc::{AllocError, Global};
 use std::process::Abort;
 use vs_base::{OutOfMemory, Why};
@@ -99,8 +99,8 @@ fn fault_of(why: &Why) -> (&'static str, u64) {
         Why::Disagrees { .. } => ("disagrees", 0),
         Why::NotFullImage { .. } => ("not full", 0),
         Why::BadRow { .. } => ("bad row", 0),
+        Why::BadJournal { at } => ("bad journal", *at as u64),
         Why::JournalNotAlone => ("journal not alone", 0),
-        Why::NotBuilt => ("not built", 0),
     }
 }
 
@@ -119,7 +119,7 @@ fn work_of(work: &Work) -> (&'static str, u64) {
         Work::Ddl(text) => ("ddl", text.as_bytes().len() as u64),
         Work::Other => ("other", 0),
         Work::Rows(changes) => ("rows", changes.as_slice().len() as u64),
-        Work::Journal(_) => ("journal", 0),
+        Work::Journal(journal) => ("journal", journal.successors.as_slice().len() as u64),
     }
 }
 
@@ -398,16 +398,34 @@ const ROWS: &[Case] = &[
         &[MAP, XID, GTID_2, BEGIN, MAP, INSERTS, XID],
         (2, "open", 0, 0),
     ),
-    (&[JOURNAL, OURS], (0, "not built", 0, 259)),
+];
+
+/// Journals inside a transaction, behind their table map at byte 198.
+const JOURNALS: &[Case] = &[
+    (&[JOURNAL, OURS, XID], (1, "open", 0, 0)),
+    (&[JOURNAL, OURS_CUT], (0, "bad journal", 3, 259)),
+    (&[JOURNAL, OURS_CUT_SECOND], (0, "bad journal", 3, 259)),
+    (&[JOURNAL, TWO_OURS], (0, "journal not alone", 0, 259)),
+    (&[JOURNAL, OURS, OURS], (0, "journal not alone", 0, 306)),
+    (
+        &[MAP, INSERTS, JOURNAL, OURS],
+        (0, "journal not alone", 0, 345),
+    ),
+    (
+        &[MAP, JOURNAL, OURS, INSERTS],
+        (0, "journal not alone", 0, 349),
+    ),
 ];
 
 #[test]
 fn rows(rt: HostRuntime) {
     check(&rt, rt.alloc(), Beginning::Open, Ask::End, ROWS);
+    check(&rt, rt.alloc(), Beginning::Open, Ask::End, JOURNALS);
 }
 
 /// Entries behind a base, from byte 112 on: a statement with the length of its text, or the number of
-/// the changes of a transaction; the time of the last event, and the place behind it.
+/// the changes of a transaction, or of the successors of a journal; the time of the last event, and the
+/// place behind it.
 const ENTRIES: &[Case] = &[
     (&[GTID_1, DROP_T], (12, "ddl", 100, 205)),
     (&[GTID_1, ROTATE, DROP_T], (12, "ddl", 100, 224)),
@@ -447,6 +465,24 @@ const CHANGES: &[Case] = &[
     (
         &[GTID_1, BEGIN, JOURNAL, OURS_DELETED, XID],
         (0, "rows", 104, 333),
+    ),
+    (
+        &[GTID_1, BEGIN, JOURNAL, OURS_OF_SPLIT, XID],
+        (2, "journal", 104, 587),
+    ),
+    (
+        &[
+            GTID_1,
+            BEGIN,
+            MAP_OF_S,
+            JOURNAL,
+            INSERTS,
+            OTHERS,
+            OURS,
+            OURS_DELETED,
+            XID,
+        ],
+        (0, "journal", 104, 510),
     ),
 ];
 
@@ -578,6 +614,5 @@ fn entries_byte_by_byte(rt: HostRuntime) {
 
 #[test]
 fn laws_can_be_called() {
-    law_no_journals();
     law_part();
 }

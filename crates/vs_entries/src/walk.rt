@@ -135,6 +135,7 @@ impl Walk {
 
     /// Goes on up to the first event that tells of the base; whether that one is refused. Where memory
     /// runs out, the walk is back where it was.
+    #[tactic(auto, using(crate::proofs::OverLemmas::front_back))]
     pub fn read_front(
         &mut self,
         alloc: Global,

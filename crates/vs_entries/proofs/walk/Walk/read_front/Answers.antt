@@ -1,4 +1,4 @@
-use Rattle.vs_entries.proofs.OverLemmas.{front_back, magic_starts, magic_wanting}
+use Rattle.vs_entries.proofs.OverLemmas.{magic_starts, magic_wanting}
 use Rattle.vs_entries.proofs.walk.Walk.read_front.Goals as goal
 
 pub returns-in_default-clause-ok : goal.returns-in_default-clause-ok
@@ -6,6 +6,3 @@ returns-in_default-clause-ok c = magic_wanting c.laws.ensures _ _ _ _ c.requires
 
 pub read_early-requires-clause-early : goal.read_early-requires-clause-early
 read_early-requires-clause-early c = magic_starts c.laws.ensures _ _ _ c.requires.stands c.requires.early c.requires.given c.requires.begun c.in-Whole.ensures
-
-pub returns-in-Err-clause-err : goal.returns-in-Err-clause-err
-returns-in-Err-clause-err c = front_back _ _ c.args.self.now c.read_early.new.self c.requires.early c.requires.given c.in-Err.ensures.err
