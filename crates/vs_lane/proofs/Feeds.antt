@@ -1,5 +1,5 @@
 -- What a turn of a feed and its reader keeps.
-use Rattle.std.proofs.Common.{inl, inr, ◌≡◌, ◌≢◌, ℕ, zero, suc, ◌+◌, ◌-◌, ◌^◌, ◌<◌, ◌≤◌, Bool, true, false, List, [], ◌∷◌, ◌++◌, length, take, drop, length-append, append_assoc, append-nil, Option, Some, None, Ok, Err, refl, sym, ap, ◌∙◌, subst, arith, true≢false}
+use Rattle.std.proofs.Common.{◌≡◌, ℕ, zero, suc, ◌+◌, ◌-◌, ◌≤◌, Bool, true, false, List, [], ◌∷◌, ◌++◌, length, take, drop, append-nil, Option, Some, None, Ok, Err, refl, sym, ap, ◌∙◌, subst, arith, true≢false}
 use Rattle.std.specs.Prelude.{IfSome, IsSomeAnd, MatchOption}
 use Rattle.std.specs.Option.{ForSome}
 use Rattle.std.proofs.lemmas.List.{take_all, length-take}
@@ -7,20 +7,18 @@ use Rattle.std.proofs.Math.Seq.{take-append_seam, take-append-add}
 use Rattle.vs_base.specs.declared.ShardName.{ShardName}
 use Rattle.vs_base.specs.declared.Why.{Why}
 use Rattle.vs_gtid.specs.declared.Entry.{Entry}
-use Rattle.vs_outside.specs.declared.feed.Got.{Got}
 use Rattle.vs_outside.specs.declared.feed.Got.TheVariants as got
-use Rattle.vs_outside.specs.Counts.{Rose, raised}
+use Rattle.vs_outside.specs.Counts.{Rose}
 use Rattle.vs_outside.specs.Reads.{FillsBuffer, GivesNext}
 use Rattle.vs_outside.specs.Told.{IsPrefixOf}
-use Rattle.vs_log.specs.Events.{IsPart, limit}
+use Rattle.vs_log.specs.Events.{IsPart}
 use Rattle.vs_log.specs.Productions.{StandsAt}
 use Rattle.vs_log.proofs.Faults.{grows}
 use Rattle.vs_entries.specs.Laws.{BoundsParts}
 use Rattle.vs_entries.specs.Pieces.{Fed, GivesEntry, log_fed, rules_fed, with_piece}
 use Rattle.vs_entries.specs.declared.took.Took.TheVariants as took
 use Rattle.vs_entries.specs.declared.took.LogRefusal.TheVariants as refusal
-use Rattle.vs_lane.specs.Feeding.{Comes, HasReadAll, IsFront, IsHeldWithin, IsLater, IsReading, IsSound, Read, given_of, log_read, read_as, rules_read}
-use Rattle.vs_lane.specs.declared.entries.Came.{Came}
+use Rattle.vs_lane.specs.Feeding.{Comes, HasReadAll, IsFront, IsHeldWithin, IsLater, IsReading, IsSound, Read, given_of, read_as}
 use Rattle.vs_lane.specs.declared.entries.Came.TheVariants as came
 
 front_of : {A : Type 0} (n : ℕ) (xs : List A) → xs ≡ take n xs ++ drop n xs

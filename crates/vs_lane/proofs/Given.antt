@@ -1,5 +1,5 @@
 -- What a lane gives from the place to which its first pieces led comes behind these.
-use Rattle.std.proofs.Common.{◌≡◌, ◌||◌, Bool, true, false, List, [], ◌∷◌, ◌++◌, append_assoc, append-nil, map, Option, Some, None, IfSome, refl, ap, sym, ◌∙◌, subst}
+use Rattle.std.proofs.Common.{◌≡◌, ◌||◌, Bool, true, false, List, [], ◌∷◌, ◌++◌, append_assoc, map, Option, Some, None, IfSome, refl, ap, sym, ◌∙◌, subst}
 use Rattle.std.specs.List.{AllZip}
 use Rattle.vs_base.specs.declared.ShardName.{ShardName}
 use Rattle.vs_base.specs.declared.Gtid.{Gtid}
@@ -13,7 +13,6 @@ use Rattle.vs_gtid.specs.Vectors.Place.{Fresh, Copying, Streaming}
 use Rattle.vs_model.specs.Logs.{IsPositionAfter, due, is_gtid_of, stop}
 use Rattle.vs_model.specs.Laws.{DueGoesOn, StopStays}
 use Rattle.vs_model.specs.Copy.{Bound, picked}
-use Rattle.vs_model.specs.Steps.{AreFirstDue}
 use Rattle.vs_model.specs.Core.{Piece, PlaceAfter, IsOfCopy, AreStreamed, AreGiven}
 use Rattle.vs_model.specs.Core.Piece.{Transaction, CopiedRows, CopyEnd}
 use Rattle.vs_model.proofs.Given.{same_place}

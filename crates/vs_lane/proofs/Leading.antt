@@ -1,13 +1,10 @@
 -- How what leads from one lane to the next is put together, and what it comes to.
-use Rattle.std.proofs.Common.{inl, inr, ⊎_elim, ◌≡◌, ℕ, ◌≤◌, Bool, true, false, List, [], ◌∷◌, ◌++◌, append_assoc, append-nil, Option, Some, None, refl, sym, ap, ◌∙◌, subst, arith, true≢false}
+use Rattle.std.proofs.Common.{inl, inr, ⊎_elim, ◌≡◌, ℕ, false, List, [], ◌∷◌, ◌++◌, append_assoc, append-nil, Option, Some, None, refl, sym, ◌∙◌, subst, arith}
 use Rattle.std.specs.Prelude.{◌≢◌, ◌⊎◌}
-use Rattle.std.specs.Option.{ForSome}
 use Rattle.vs_base.specs.declared.ShardName.{ShardName}
 use Rattle.vs_base.specs.declared.table.Column.{Column}
 use Rattle.vs_gtid.specs.declared.JournalValue.{JournalValue}
-use Rattle.vs_gtid.specs.Logs.{Log}
 use Rattle.vs_gtid.specs.Vectors.{Place}
-use Rattle.vs_model.specs.Copy as copy
 use Rattle.vs_model.specs.Copy.{Filter}
 use Rattle.vs_model.specs.Core.{Piece as Given, AreGiven, HasBase}
 use Rattle.vs_model.specs.Laws.{DueGoesOn, StopStays}
@@ -15,8 +12,8 @@ use Rattle.vs_model.specs.Logs.{Cluster, log_of}
 use Rattle.vs_render.specs.Bodies.{columns_in}
 use Rattle.vs_render.specs.Posted.{ArePosted, Shows, spelled_by}
 use Rattle.vs_render.specs.declared.piece.Piece.{Piece}
-use Rattle.vs_lane.specs.Pieces.{EndIsLast, OnEnd, meant_in, spelled_in}
-use Rattle.vs_lane.specs.Stands.{Along, EndFits, EndHasBase, EndsBy, IsSameLane, Later, Leads, Seen, Stands, StandsOn, log_seen}
+use Rattle.vs_lane.specs.Pieces.{EndIsLast, meant_in, spelled_in}
+use Rattle.vs_lane.specs.Stands.{Along, EndFits, EndHasBase, EndsBy, Later, Leads, Seen, Stands, StandsOn, log_seen}
 use Rattle.vs_lane.specs.Steps.{StepFor, StepOn}
 use Rattle.vs_lane.proofs.Given.{given_then}
 use Rattle.vs_lane.proofs.Shown.{end-behind, given_front, none_last, on_end-behind, shows-behind, shows_front, spelled_same}

@@ -1,7 +1,6 @@
 -- What the search for the end of a log keeps, and the entries that are passed over.
-use Rattle.std.proofs.Common.{inl, inr, ◌≡◌, ◌≢◌, ℕ, ◌+◌, ◌-◌, ◌^◌, ◌<◌, ◌≤◌, Bool, true, false, List, [], ◌∷◌, ◌++◌, length, length-append, append_assoc, append-nil, Option, Some, None, Ok, refl, sym, ap, ◌∙◌, subst, arith, true≢false}
-use Rattle.std.specs.Prelude.{◌⊎◌, MatchOption, unwrap_or}
-use Rattle.std.specs.Option.{ForSome}
+use Rattle.std.proofs.Common.{inl, inr, ◌≡◌, ℕ, ◌≤◌, true, false, List, [], ◌∷◌, ◌++◌, length, length-append, append_assoc, append-nil, Option, Some, None, Ok, refl, sym, ap, ◌∙◌, arith}
+use Rattle.std.specs.Prelude.{MatchOption, unwrap_or}
 use Rattle.vs_gtid.specs.declared.Entry.{Entry}
 use Rattle.vs_gtid.specs.Joins.{added}
 use Rattle.vs_gtid.specs.Positions.{Position, has}
@@ -9,7 +8,7 @@ use Rattle.vs_outside.specs.Counts.{Rose, raised}
 use Rattle.vs_log.specs.Meaning.{knows_base, log_meant}
 use Rattle.vs_log.proofs.Bases.{knows_its_base}
 use Rattle.vs_entries.specs.Rules.{rules_of}
-use Rattle.vs_lane.specs.Feeding.{Comes, HasReadAll, IsLater, IsSound, Read, log_read, rules_read}
+use Rattle.vs_lane.specs.Feeding.{Comes, IsLater, IsSound, Read, log_read, rules_read}
 use Rattle.vs_lane.specs.Stands.{position_after}
 use Rattle.vs_lane.specs.Steps.{AreIn, ComesDue, IsLacking, read_on}
 use Rattle.vs_lane.specs.Ends.{FindsEnd, FindsNone, Found}

@@ -1,5 +1,5 @@
 -- What lists of pieces show, put together and taken apart.
-use Rattle.std.proofs.Common.{inl, inr, ◌≡◌, Bool, true, false, ℕ, List, [], ◌∷◌, ◌++◌, append-nil, Option, Some, None, refl, sym, ap, ◌∙◌, subst, true≢false}
+use Rattle.std.proofs.Common.{inl, inr, ◌≡◌, Bool, false, ℕ, List, [], ◌∷◌, ◌++◌, append-nil, Option, None, refl, sym, ap, ◌∙◌, subst, true≢false}
 use Rattle.std.specs.Prelude.{◌⊎◌}
 use Rattle.vs_base.specs.declared.ShardName.{ShardName}
 use Rattle.vs_base.specs.declared.table.Column.{Column}

@@ -1,11 +1,10 @@
 -- What a lane begins with, and what it finds where it seeks its start.
-use Rattle.std.proofs.Common.{inl, inr, ◌≡◌, ◌≢◌, ◌||◌, ℕ, ◌≤◌, Bool, true, false, List, [], ◌∷◌, ◌++◌, length, take, Option, Some, None, refl, sym, ap, ◌∙◌, subst, arith, true≢false}
+use Rattle.std.proofs.Common.{inl, inr, ◌≡◌, ◌||◌, ℕ, Bool, true, false, List, [], ◌++◌, length, take, Some, None, refl, sym, ap, ◌∙◌, subst, arith, true≢false}
 use Rattle.std.specs.Prelude.{◌⊎◌}
 use Rattle.std.specs.Option.{ForSome}
 use Rattle.std.proofs.lemmas.List.{take_all}
 use Rattle.std.proofs.Math.Seq.{take-append_seam}
 use Rattle.vs_base.specs.declared.ShardName.{ShardName}
-use Rattle.vs_base.specs.declared.Why.{Why}
 use Rattle.vs_gtid.specs.declared.Entry.{Entry}
 use Rattle.vs_gtid.specs.Logs.{Log}
 use Rattle.vs_gtid.specs.Positions.{Position, has}
@@ -27,7 +26,7 @@ use Rattle.vs_lane.specs.Feeding.{IsLater, IsSound, Read, log_read, rules_read}
 use Rattle.vs_lane.specs.Pieces.{meant_in}
 use Rattle.vs_lane.specs.Stands.{Seen, Stands, lacking, log_seen, position_after}
 use Rattle.vs_lane.specs.Steps.{Keeps, is_over, is_seeking, passed, seen_as}
-use Rattle.vs_lane.specs.Answers.{HasGivenAll, OfGiven}
+use Rattle.vs_lane.specs.Answers.{HasGivenAll}
 use Rattle.vs_lane.specs.Ends.{BeginsAt, FailsSearch, FindsEnd, FindsStart, HasNoStart, KnowsBase, StartsAt}
 use Rattle.vs_lane.specs.declared.course.Course.{Course}
 use Rattle.vs_lane.specs.declared.course.Course.TheVariants.{Seeks, GoesOn, Ended, EndedAtEntry}

@@ -1,6 +1,6 @@
 -- What a step of a lane comes to, by what came of the log and what the piece says of it.
-use Rattle.std.proofs.Common.{inl, inr, ⊎_elim, ◌≡◌, ◌≢◌, ℕ, ◌+◌, ◌-◌, ◌^◌, ◌<◌, ◌≤◌, min, Bool, true, false, List, [], ◌∷◌, ◌++◌, length, length-append, append_assoc, append-nil, Option, Some, None, refl, sym, ap, ◌∙◌, subst, arith, true≢false}
-use Rattle.std.specs.Prelude.{◌⊎◌, IsTrue}
+use Rattle.std.proofs.Common.{inl, inr, ◌≡◌, ◌≢◌, ℕ, ◌≤◌, Bool, true, false, List, [], ◌∷◌, ◌++◌, length, length-append, append_assoc, Option, Some, None, refl, sym, ap, ◌∙◌, subst, arith, true≢false}
+use Rattle.std.specs.Prelude.{◌⊎◌}
 use Rattle.std.specs.Option.{ForSome}
 use Rattle.vs_base.specs.declared.Gtid.{Gtid}
 use Rattle.vs_base.specs.declared.ShardName.{ShardName}
@@ -17,7 +17,7 @@ use Rattle.vs_gtid.specs.Positions.{Position, IsSubset, has}
 use Rattle.vs_gtid.specs.Vectors.{Place}
 use Rattle.vs_gtid.specs.Vectors.Place.{Streaming}
 use Rattle.vs_rows.specs.Tables.{Tables}
-use Rattle.vs_log.specs.Laws.{Grows, KnowsItsBase}
+use Rattle.vs_log.specs.Laws.{KnowsItsBase}
 use Rattle.vs_log.specs.Meaning.{knows_base, log_meant}
 use Rattle.vs_log.specs.Productions.{StandsAt}
 use Rattle.vs_log.specs.Table.{Rules}
@@ -31,23 +31,23 @@ use Rattle.vs_filter.specs.declared.bound.Picked.{Picked}
 use Rattle.vs_filter.specs.Picks.{bound_in}
 use Rattle.vs_base.specs.declared.Table.{Table}
 use Rattle.vs_model.specs.Copy.{picked}
-use Rattle.vs_model.specs.Core.{Piece as Given, AreGiven, HasBase}
+use Rattle.vs_model.specs.Core.{AreGiven}
 use Rattle.vs_model.specs.Core.Piece.{Transaction}
 use Rattle.vs_model.specs.Logs.{due, journal_of, own_journal, stop}
 use Rattle.vs_render.specs.Events.{closing_said, head_of}
 use Rattle.vs_render.specs.Frames.{fronts_said}
-use Rattle.vs_render.specs.Bodies.{IsTooLarge, Rendered, columns_in, entry_body, picked_work_in, rendered}
-use Rattle.vs_render.specs.Posted.{IsEndAt, IsNoSwitch, Shows}
+use Rattle.vs_render.specs.Bodies.{IsTooLarge, columns_in, entry_body, picked_work_in, rendered}
+use Rattle.vs_render.specs.Posted.{IsEndAt, Shows}
 use Rattle.vs_render.specs.declared.piece.Piece.{Piece}
 use Rattle.vs_render.specs.declared.piece.Piece.TheVariants.{Tx, Foreign, Chunk, CopyDone, Idle, End}
 use Rattle.vs_render.specs.declared.piece.EndCause.{EndCause}
 use Rattle.vs_render.specs.declared.piece.EndCause.TheVariants.{AtEnd, OwnJournal, FeedFault, BadLog, Purged, Memory}
 use Rattle.vs_render.specs.declared.room.Room.{Room}
-use Rattle.vs_lane.specs.Feeding.{Comes, is_entry, tells_log, HasReadAll, IsFront, IsLater, IsSound, Read, log_read, rules_read}
+use Rattle.vs_lane.specs.Feeding.{Comes, is_entry, tells_log, HasReadAll, IsLater, IsSound, Read, log_read, rules_read}
 use Rattle.vs_lane.specs.Pieces.{EndIsLast, OnEnd, meant_in, spelled_in}
-use Rattle.vs_lane.specs.Stands.{EndFits, EndHasBase, EndsBy, IsAtEnd, IsBadAt, IsSameLane, Later, Seen, StreamsFrom, lacking, log_seen, position_after}
-use Rattle.vs_lane.specs.Steps.{AreIn, ComesDue, HasBaseIn, IsLacking, Keeps, StepFor, StepOn, course_behind, is_over, is_seeking, passed, read_on, seen_as}
-use Rattle.vs_lane.specs.Answers.{EitherBy, EndComes, EndsAtEntry, GivesPiece, HasNothingDue, IsEndBy, IsIdle, IsIdleFor, OfGiven, PieceComes, Says, SaysCame, SaysEnd, SaysInBase}
+use Rattle.vs_lane.specs.Stands.{EndFits, EndHasBase, EndsBy, IsAtEnd, IsBadAt, Later, Seen, StreamsFrom, lacking, log_seen, position_after}
+use Rattle.vs_lane.specs.Steps.{AreIn, ComesDue, HasBaseIn, IsLacking, Keeps, StepFor, course_behind, is_over, is_seeking, passed, read_on, seen_as}
+use Rattle.vs_lane.specs.Answers.{EitherBy, EndsAtEntry, GivesPiece, HasNothingDue, IsEndBy, IsIdle, OfGiven, PieceComes, Says, SaysCame, SaysEnd, SaysInBase}
 use Rattle.vs_lane.specs.declared.course.Course.{Course}
 use Rattle.vs_lane.specs.declared.course.Course.TheVariants.{Seeks, GoesOn, Ended, EndedAtEntry}
 use Rattle.vs_lane.specs.declared.entries.Came.{Came}

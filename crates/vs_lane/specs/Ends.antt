@@ -1,5 +1,5 @@
 -- What the search for the end of a log finds.
-use Rattle.std.specs.Prelude.{◌≡◌, ◌⊎◌, ℕ, Bool, true, false, List, [], take, Option, Some, None, Result, Ok, Err}
+use Rattle.std.specs.Prelude.{◌≡◌, ◌⊎◌, ℕ, true, false, [], take, Option, Some, None, Result, Ok, Err}
 use Rattle.std.specs.Option.{ForSome}
 use Rattle.vs_gtid.specs.Positions.{Position}
 use Rattle.vs_gtid.specs.Vectors.Place.{Streaming}

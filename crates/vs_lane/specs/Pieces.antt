@@ -1,7 +1,5 @@
 -- What is said of lists of pieces.
-use Rattle.std.specs.Prelude.{◌≡◌, ◌≢◌, ℕ, Bool, true, false, List, [], ◌∷◌}
-use Rattle.vs_base.specs.declared.table.Column.{Column}
-use Rattle.vs_pool.specs.Buffers.{Buffer}
+use Rattle.std.specs.Prelude.{◌≡◌, ℕ, Bool, true, false, List, [], ◌∷◌}
 use Rattle.vs_schema.specs.declared.schema.Schema.{Schema}
 use Rattle.vs_filter.specs.declared.bound.Bound.{Bound}
 use Rattle.vs_filter.specs.Picks.{bound_in}

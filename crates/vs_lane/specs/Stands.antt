@@ -1,5 +1,5 @@
 -- How a lane and the pieces that it gave fit, and what leads from one lane to another.
-use Rattle.std.specs.Prelude.{◌≡◌, ◌≢◌, ◌≤◌, ◌⊎◌, ℕ, Bool, true, false, not, List, [], ◌∷◌, ◌++◌, Option, Some, None}
+use Rattle.std.specs.Prelude.{◌≡◌, ◌≢◌, ◌≤◌, ◌⊎◌, ℕ, Bool, true, not, List, [], ◌∷◌, ◌++◌, Option, Some, None}
 use Rattle.std.specs.Option.{ForSome}
 use Rattle.std.specs.List.{filter}
 use Rattle.vs_base.specs.declared.ShardName.{ShardName}
@@ -12,7 +12,7 @@ use Rattle.vs_gtid.specs.Logs.{Log}
 use Rattle.vs_gtid.specs.Missing.{IsFirstMissing}
 use Rattle.vs_gtid.specs.Positions.{Position, has}
 use Rattle.vs_gtid.specs.Vectors.{Place, IsCanonicalPlace}
-use Rattle.vs_gtid.specs.Vectors.Place.{Fresh, Copying, Streaming}
+use Rattle.vs_gtid.specs.Vectors.Place.{Streaming}
 use Rattle.vs_schema.specs.declared.schema.Schema.{Schema}
 use Rattle.vs_log.specs.Meaning.{log_meant}
 use Rattle.vs_log.specs.Productions.{StandsAt}
@@ -25,7 +25,6 @@ use Rattle.vs_render.specs.declared.piece.EndCause.{EndCause}
 use Rattle.vs_render.specs.declared.piece.EndCause.TheVariants.{AtEnd, OwnJournal, FeedFault, BadLog, Purged, Memory}
 use Rattle.vs_render.specs.Bodies.{IsTooLarge, entry_body}
 use Rattle.vs_render.specs.Posted.{Shows}
-use Rattle.vs_lane.specs.Feeding.{IsHeldWithin}
 use Rattle.vs_lane.specs.Pieces.{EndIsLast, OnEnd, meant_in, spelled_in}
 
 -- What a contract sees of a lane: its shard, how the shard's log is read and what is picked of it, where it starts and whether that was found, what its feed tells, how many bytes it holds unread, whether it gave an End, and the place to which its pieces have led.

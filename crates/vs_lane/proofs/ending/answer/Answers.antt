@@ -1,4 +1,4 @@
-use Rattle.std.proofs.Common.{inl, inr, rules, refl, ◌≡◌, true, false}
+use Rattle.std.proofs.Common.{inl, inr, rules, refl}
 use Rattle.vs_lane.proofs.Stepping.{says_in, says_out}
 use Rattle.vs_lane.proofs.ending.answer.Goals as goal
 

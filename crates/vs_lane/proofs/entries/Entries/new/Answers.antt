@@ -1,4 +1,4 @@
-use Rattle.std.proofs.Common.{rules, ◌≡◌, false, length, ap}
+use Rattle.std.proofs.Common.{rules, false, length, ap}
 use Rattle.vs_entries.specs.Pieces.{Fed}
 use Rattle.vs_lane.proofs.Feeds.{reading_first, sound_of}
 use Rattle.vs_lane.proofs.entries.Entries.new.Goals as goal

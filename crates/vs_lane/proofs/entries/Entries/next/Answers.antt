@@ -1,4 +1,4 @@
-use Rattle.std.proofs.Common.{rules, ◌∙◌, refl}
+use Rattle.std.proofs.Common.{◌∙◌, refl}
 use Rattle.vs_lane.proofs.Searches.{comes_from, later_same, later_then}
 use Rattle.vs_lane.proofs.entries.Entries.next.Goals as goal
 

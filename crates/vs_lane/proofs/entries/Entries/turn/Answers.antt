@@ -1,4 +1,4 @@
-use Rattle.std.proofs.Common.{rules, ◌≡◌, ℕ, List, length, take, arith, refl, sym, ap, ◌∙◌}
+use Rattle.std.proofs.Common.{rules, ℕ, List, length, take, refl, ap, ◌∙◌}
 use Rattle.vs_entries.specs.Pieces.{with_piece}
 use Rattle.vs_lane.proofs.Feeds.{ends_turned, entry_turned, fed_turned, lost_turned, reading_in, spent_turned, waits_turned, written_is}
 use Rattle.vs_lane.proofs.entries.Entries.turn.Goals as goal

@@ -1,4 +1,4 @@
-use Rattle.std.proofs.Common.{◌≡◌, refl, ap, sym, ◌∙◌}
+use Rattle.std.proofs.Common.{refl, ap, ◌∙◌}
 use Rattle.vs_lane.specs.Stands.{Seen}
 use Rattle.vs_lane.proofs.Starting.{finds_start, has_no_start}
 use Rattle.vs_lane.proofs.lane.Lane.find_end.Goals as goal

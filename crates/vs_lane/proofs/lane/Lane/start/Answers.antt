@@ -1,5 +1,4 @@
-use Rattle.std.proofs.Common.{rules, ◌≡◌, ◌∙◌}
-use Rattle.vs_lane.proofs.Starting.{begins_on, begins_standing, keeps_first, starts_at}
+use Rattle.vs_lane.proofs.Starting.{begins_on, begins_standing, starts_at}
 use Rattle.vs_lane.proofs.lane.Lane.start.Goals as goal
 
 pub returns-clause-from : goal.returns-clause-from

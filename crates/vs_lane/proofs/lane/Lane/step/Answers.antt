@@ -1,4 +1,4 @@
-use Rattle.std.proofs.Common.{◌≡◌, ap, ◌∙◌}
+use Rattle.std.proofs.Common.{ap, ◌∙◌}
 use Rattle.vs_lane.specs.Stands.{Seen}
 use Rattle.vs_lane.proofs.Stepping.{checked_on, keeps_on, owes_on}
 use Rattle.vs_lane.proofs.lane.Lane.step.Goals as goal
