@@ -1,5 +1,5 @@
 -- Events by what they begin and end with, and their messages field by field.
-use Rattle.std.proofs.Common.{◌≡◌, ℕ, ℤ, pos, Bool, true, false, List, [], ◌∷◌, ◌++◌, map, nat_lt, refl, ap, ap₂, sym, ◌∙◌, append_assoc, if◌then◌else◌}
+use Rattle.std.proofs.Common.{◌≡◌, ℕ, ℤ, pos, Bool, true, false, List, [], ◌∷◌, ◌++◌, length, take, drop, map, nat_lt, refl, ap, ap₂, sym, ◌∙◌, append_assoc, if◌then◌else◌}
 use Rattle.std.proofs.lemmas.List.{append-nil}
 use Rattle.std.specs.List.{flat_map}
 use Rattle.std.specs.Option.{option_map}
@@ -21,6 +21,7 @@ use Rattle.vs_proto.specs.declared.event_kind.TheConstants.{FIELD, ROW, VGTID}
 use Rattle.vs_render.specs.Events.{EventHead, Changed, Columns, event_of, field_event_of, field_of, plain_event, row_event_of, table_name, type_number, vector_event}
 use Rattle.vs_render.specs.Spelling.{event_around, event_end, event_start, said_bytes}
 use Rattle.vs_vector.specs.Messages.{row_of}
+use Rattle.vs_render.proofs.FieldLemmas.{behind_front}
 
 -- ---- events
 
@@ -61,20 +62,26 @@ columns_bytes h table columns =
     ∙ around h FIELD (values_bytes 6 (sized (spelling (field_event true) (field_event_of h.keyspace table columns)) ∷ [])) (field_bytes 6 (sized (spelling (field_event true) (field_event_of h.keyspace table columns))))
     (append-nil (field_bytes 6 (sized (spelling (field_event true) (field_event_of h.keyspace table columns)))))
 
--- the parts of an event, as they are written one after the other
-pub around_put : (h : EventHead) (kind : ℤ) (middle first second third new old : List ℕ) → first ≡ event_start h kind → second ≡ first ++ middle → third ≡ second ++ event_end h →
-    new ≡ old ++ field_bytes 1 (sized third) → new ≡ old ++ event_around h kind middle
-around_put h kind middle first second third new old a b c d =
-    d ∙ ap (λ (bs : List ℕ). old ++ field_bytes 1 (sized bs)) (c ∙ ap (λ (bs : List ℕ). bs ++ event_end h) (b ∙ ap (λ (bs : List ℕ). bs ++ middle) a) ∙ append_assoc (event_start h kind) middle (event_end h))
+-- an event that is closed behind its message
+pub closed_put : (h : EventHead) (kind : ℤ) (front message middle all first second new : List ℕ) (start inside : ℕ) (f : List ℕ → List ℕ) → middle ≡ f message →
+    all ≡ front ++ (event_start h kind ++ message) → start ≡ length front → inside ≡ length (front ++ event_start h kind) → first ≡ take inside all ++ f (drop inside all) → second ≡ first ++ event_end h →
+    new ≡ take start second ++ field_bytes 1 (sized (drop start second)) → new ≡ front ++ event_around h kind middle
+closed_put h kind front message middle all first second new start inside f is_middle is at within a b put =
+    let begun : first ≡ (front ++ event_start h kind) ++ middle =
+    behind_front f (front ++ event_start h kind) message all first inside within (is ∙ sym (append_assoc front (event_start h kind) message)) a ∙ ap (λ (bs : List ℕ). (front ++ event_start h kind) ++ bs) (sym is_middle) in
+    let ended : second ≡ front ++ (event_start h kind ++ (middle ++ event_end h)) =
+    b ∙ ap (λ (bs : List ℕ). bs ++ event_end h) begun ∙ append_assoc (front ++ event_start h kind) middle (event_end h) ∙ append_assoc front (event_start h kind) (middle ++ event_end h) in
+    behind_front (λ (bs : List ℕ). field_bytes 1 (sized bs)) front (event_start h kind ++ (middle ++ event_end h)) second new start at ended put
 
-pub plain_put : (h : EventHead) (kind : ℤ) (first second new old : List ℕ) → first ≡ event_start h kind → second ≡ first ++ event_end h →
-    new ≡ old ++ field_bytes 1 (sized second) → new ≡ old ++ events_bytes (plain_event h kind ∷ [])
-plain_put h kind first second new old a b d =
-    d ∙ ap (λ (bs : List ℕ). old ++ field_bytes 1 (sized bs)) (b ∙ ap (λ (bs : List ℕ). bs ++ event_end h) a) ∙ ap (λ (bs : List ℕ). old ++ bs) (sym (plain_bytes h kind))
+pub plain_put : (h : EventHead) (kind : ℤ) (old first second new : List ℕ) (start : ℕ) → start ≡ length old → first ≡ old ++ event_start h kind → second ≡ first ++ event_end h →
+    new ≡ take start second ++ field_bytes 1 (sized (drop start second)) → new ≡ old ++ events_bytes (plain_event h kind ∷ [])
+plain_put h kind old first second new start at a b put =
+    behind_front (λ (bs : List ℕ). field_bytes 1 (sized bs)) old (event_start h kind ++ event_end h) second new start at (b ∙ ap (λ (bs : List ℕ). bs ++ event_end h) a ∙ append_assoc old (event_start h kind) (event_end h)) put
+    ∙ ap (λ (bs : List ℕ). old ++ bs) (sym (plain_bytes h kind))
 
-pub vector_put : (h : EventHead) (m : VGtid) (message new old : List ℕ) → message ≡ spelling (vgtid true) m → new ≡ old ++ event_around h VGTID (field_bytes 7 (sized message)) →
+pub vector_put : (h : EventHead) (m : VGtid) (new old : List ℕ) → new ≡ old ++ event_around h VGTID (field_bytes 7 (sized (spelling (vgtid true) m))) →
     new ≡ old ++ events_bytes (vector_event h m ∷ [])
-vector_put h m message new old a b = b ∙ ap (λ (bs : List ℕ). old ++ event_around h VGTID (field_bytes 7 (sized bs))) a ∙ ap (λ (bs : List ℕ). old ++ bs) (sym (vector_bytes h m))
+vector_put h m new old put = put ∙ ap (λ (bs : List ℕ). old ++ bs) (sym (vector_bytes h m))
 
 -- ---- rows
 
@@ -112,15 +119,13 @@ row_event_is keyspace c =
     ∙ append-nil (field_bytes 2 (sized (spelling (row_change true) (record { before = option_map row_of c.before; after = option_map row_of c.after })))))
 
 -- the event of a change, as its parts are written
-pub change_put : (h : EventHead) (c : Change) (first change table name message new : List ℕ) →
-    first ≡ values_bytes 1 (if_set (row true) (option_map row_of c.before)) → change ≡ first ++ values_bytes 2 (if_set (row true) (option_map row_of c.after)) →
-    table ≡ table_name h.keyspace c.table → name ≡ values_bytes 1 (if_any table) → message ≡ name ++ field_bytes 2 (sized change) →
-    new ≡ event_around h ROW (field_bytes 5 (sized message)) → new ≡ said_bytes h (Changed c ∷ [])
-change_put h c first change table name message new a b t n m d =
-    d
+pub change_put : (h : EventHead) (c : Change) (new : List ℕ) →
+    new ≡ event_around h ROW (field_bytes 5 (sized (values_bytes 1 (if_any (table_name h.keyspace c.table)) ++ field_bytes 2 (sized (values_bytes 1 (if_set (row true) (option_map row_of c.before)) ++ values_bytes 2 (if_set (row true) (option_map row_of c.after))))))) →
+    new ≡ said_bytes h (Changed c ∷ [])
+change_put h c new put =
+    put
     ∙ ap (λ (bs : List ℕ). event_around h ROW (field_bytes 5 (sized bs)))
-    (m ∙ ap₂ (λ (ns cs : List ℕ). ns ++ field_bytes 2 (sized cs)) (n ∙ ap (λ (ts : List ℕ). values_bytes 1 (if_any ts)) t)
-    (b ∙ ap (λ (bs : List ℕ). bs ++ values_bytes 2 (if_set (row true) (option_map row_of c.after))) a ∙ sym (change_is (record { before = option_map row_of c.before; after = option_map row_of c.after })))
+    (ap (λ (bs : List ℕ). values_bytes 1 (if_any (table_name h.keyspace c.table)) ++ field_bytes 2 (sized bs)) (sym (change_is (record { before = option_map row_of c.before; after = option_map row_of c.after })))
     ∙ sym (row_event_is h.keyspace c))
     ∙ sym (row_bytes h c)
 
@@ -135,23 +140,26 @@ field_event_is : (keyspace table : List ℕ) (columns : List Column) →
 unfolding field_event spelling
 field_event_is keyspace table columns = ap (λ (bs : List ℕ). values_bytes 1 (if_any (table_name keyspace table)) ++ bs) (append-nil (values_bytes 2 (all_set (field true) (map field_of columns))))
 
+-- the field of a column, as its parts are written
+pub column_put : (column : Column) (old name message new : List ℕ) (start : ℕ) → start ≡ length old →
+    name ≡ old ++ values_bytes 1 (if_any column.name) → message ≡ name ++ values_bytes 2 (enumeration.spelled (type_number column.kind)) → new ≡ take start message ++ field_bytes 2 (sized (drop start message)) →
+    new ≡ old ++ field_bytes 2 (sized (spelling (field true) (field_of column)))
+column_put column old name message new start at n m put =
+    behind_front (λ (bs : List ℕ). field_bytes 2 (sized bs)) old (values_bytes 1 (if_any column.name) ++ values_bytes 2 (enumeration.spelled (type_number column.kind))) message new start at
+    (m ∙ ap (λ (bs : List ℕ). bs ++ values_bytes 2 (enumeration.spelled (type_number column.kind))) n ∙ append_assoc old (values_bytes 1 (if_any column.name)) (values_bytes 2 (enumeration.spelled (type_number column.kind)))) put
+    ∙ ap (λ (bs : List ℕ). old ++ field_bytes 2 (sized bs)) (sym (field_is column))
+
 -- one column more
-pub column_put : (column : Column) (columns left : List Column) (all old new name message : List ℕ) →
-    all ≡ old ++ values_bytes 2 (all_set (field true) (map field_of columns)) → columns ≡ column ∷ left →
-    name ≡ values_bytes 1 (if_any column.name) → message ≡ name ++ values_bytes 2 (enumeration.spelled (type_number column.kind)) → new ≡ old ++ field_bytes 2 (sized message) →
+pub column_more : (column : Column) (columns left : List Column) (all old new : List ℕ) →
+    all ≡ old ++ values_bytes 2 (all_set (field true) (map field_of columns)) → columns ≡ column ∷ left → new ≡ old ++ field_bytes 2 (sized (spelling (field true) (field_of column))) →
     all ≡ new ++ values_bytes 2 (all_set (field true) (map field_of left))
-column_put column columns left all old new name message before is n m put =
+column_more column columns left all old new before is put =
     before ∙ ap (λ (cs : List Column). old ++ values_bytes 2 (all_set (field true) (map field_of cs))) is
     ∙ sym (append_assoc old (field_bytes 2 (sized (spelling (field true) (field_of column)))) (values_bytes 2 (all_set (field true) (map field_of left))))
-    ∙ ap (λ (bs : List ℕ). bs ++ values_bytes 2 (all_set (field true) (map field_of left)))
-    (ap (λ (bs : List ℕ). old ++ field_bytes 2 (sized bs)) (field_is column ∙ ap (λ (bs : List ℕ). bs ++ values_bytes 2 (enumeration.spelled (type_number column.kind))) (sym n) ∙ sym m) ∙ sym put)
+    ∙ ap (λ (bs : List ℕ). bs ++ values_bytes 2 (all_set (field true) (map field_of left))) (sym put)
 
 -- the event of a table's columns, as its parts are written
-pub columns_put : (h : EventHead) (named : List ℕ) (columns : List Column) (table name message new : List ℕ) →
-    table ≡ table_name h.keyspace named → name ≡ values_bytes 1 (if_any table) → message ≡ name ++ values_bytes 2 (all_set (field true) (map field_of columns)) →
-    new ≡ event_around h FIELD (field_bytes 6 (sized message)) → new ≡ said_bytes h (Columns named columns ∷ [])
-columns_put h named columns table name message new t n m d =
-    d
-    ∙ ap (λ (bs : List ℕ). event_around h FIELD (field_bytes 6 (sized bs)))
-    (m ∙ ap (λ (ns : List ℕ). ns ++ values_bytes 2 (all_set (field true) (map field_of columns))) (n ∙ ap (λ (ts : List ℕ). values_bytes 1 (if_any ts)) t) ∙ sym (field_event_is h.keyspace named columns))
-    ∙ sym (columns_bytes h named columns)
+pub columns_put : (h : EventHead) (named : List ℕ) (columns : List Column) (new : List ℕ) →
+    new ≡ event_around h FIELD (field_bytes 6 (sized (values_bytes 1 (if_any (table_name h.keyspace named)) ++ values_bytes 2 (all_set (field true) (map field_of columns))))) → new ≡ said_bytes h (Columns named columns ∷ [])
+columns_put h named columns new put =
+    put ∙ ap (λ (bs : List ℕ). event_around h FIELD (field_bytes 6 (sized bs))) (sym (field_event_is h.keyspace named columns)) ∙ sym (columns_bytes h named columns)

@@ -4,6 +4,7 @@ pub mod SizeLemmas
 pub mod StageLemmas
 pub mod EndLemmas
 pub mod RoomLemmas
+pub mod FieldLemmas
 pub mod EventLemmas
 pub mod TakeLemmas
 pub mod BoundLemmas

@@ -24,44 +24,32 @@ ghost use Rattle.vs_base.specs.Rows.{cell_bytes, cell_length};
 ghost use Rattle.vs_base.specs.declared.Change.{Change as Changing};
 ghost use Rattle.vs_filter.specs.Picks.{pick_in, picked_in};
 ghost use Rattle.vs_select.specs.Rows.{taken_row};
-ghost use Rattle.vs_proto.specs.Kinds.{packed_bytes, zigzag};
+ghost use Rattle.vs_proto.specs.Kinds.{if_any, packed_bytes, zigzag};
 ghost use Rattle.vs_proto.specs.Shapes.{if_set, spelling, values_bytes};
 ghost use Rattle.vs_proto.specs.Tables.{row};
 ghost use Rattle.vs_render.specs.Events.{Changed, head_of, table_name};
 ghost use Rattle.vs_render.specs.Rendering.{IsRowOf, taken_change};
 ghost use Rattle.vs_render.specs.Spelling.{said_bytes};
 ghost use Rattle.vs_vector.specs.Messages.{row_of};
+ghost use Rattle.vs_wire.specs.Fields.{field_bytes, sized};
 
 use crate::OutOfMemory;
-use crate::spelling::{put_event_around, put_text};
+use crate::spelling::{close_event, enclose, enclose_any, put_start};
 use std::alloc::Global;
 use vs_base::{Cell, Change, Image, ShardName};
 use vs_filter::{Bound, Picked};
 use vs_proto::event_kind;
 use vs_select::BoundSelect;
-use vs_wire::{put_bytes, put_varint};
+use vs_wire::put_varint;
 
-/// Rooms for the parts of a row.
-#[derive(Debug, Drop)]
-struct RowParts {
-    /// The lengths of its cells.
-    lengths: Vec<u8>,
-    /// The bytes of its cells.
-    values: Vec<u8>,
-    /// Both, as a message.
-    row: Vec<u8>,
-}
+/// How many bytes are reserved for an event at first, so that most take memory once.
+pub(crate) const FIRST_ROOM: usize = 512;
 
-/// The ROW event of a change, and rooms for its parts.
+/// The ROW event of a change.
 #[derive(Debug, Drop)]
 pub(crate) struct SpelledRow {
     /// The event, as it stands in a message.
     pub bytes: Vec<u8>,
-    parts: RowParts,
-    change: Vec<u8>,
-    table: Vec<u8>,
-    message: Vec<u8>,
-    event: Vec<u8>,
 }
 
 /// The length of the cell at a place, as a packed list spells it. NULL has -1.
@@ -84,22 +72,27 @@ fn bytes_at(cells: &[Cell], place: usize) -> &[u8]
     }
 }
 
-/// Spells the lengths and the bytes of the cells at the places.
-fn put_cells(
+/// Appends the lengths of the cells at the places.
+fn put_lengths(
     alloc: Global,
-    lengths: &mut Vec<u8>,
-    values: &mut Vec<u8>,
+    out: &mut Vec<u8>,
     places: &[usize],
     cells: &[Cell],
 ) -> Result<(), OutOfMemory>
-    ensures lengths { OnOk result (lengths.new.items ≡ packed_bytes (map cell_length (project places.now cells.now))) }
-    ensures values { OnOk result (values.new.items ≡ flat_map cell_bytes (project places.now cells.now)) }
+    ensures { OnOk result (out.new.items ≡ out.old.items ++ packed_bytes (map cell_length (project places.now cells.now))) }
 {
-    lengths.clear();
-    values.clear();
     for place in places {
-        put_varint(alloc, lengths, length_at(cells, *place))?;
-        values.extend_from_slice(bytes_at(cells, *place))?;
+        put_varint(alloc, out, length_at(cells, *place))?;
+    }
+    Ok(())
+}
+
+/// Appends the bytes of the cells at the places.
+fn put_values(out: &mut Vec<u8>, places: &[usize], cells: &[Cell]) -> Result<(), OutOfMemory>
+    ensures { OnOk result (out.new.items ≡ out.old.items ++ flat_map cell_bytes (project places.now cells.now)) }
+{
+    for place in places {
+        out.extend_from_slice(bytes_at(cells, *place))?;
     }
     Ok(())
 }
@@ -108,16 +101,35 @@ fn put_cells(
 fn put_row(
     alloc: Global,
     out: &mut Vec<u8>,
-    lengths: &mut Vec<u8>,
-    values: &mut Vec<u8>,
     places: &[usize],
     cells: &[Cell],
 ) -> Result<(), OutOfMemory>
     ensures { OnOk result (out.new.items ≡ out.old.items ++ spelling (row true) (row_of (project places.now cells.now))) }
 {
-    put_cells(alloc, lengths, values, places, cells)?;
-    put_text(alloc, out, 1, lengths.as_slice())?;
-    put_text(alloc, out, 2, values.as_slice())?;
+    let lengths = out.len();
+    put_lengths(alloc, out, places, cells)?;
+    enclose_any(alloc, out, lengths, 1)?;
+    let values = out.len();
+    put_values(out, places, cells)?;
+    enclose_any(alloc, out, values, 2)?;
+    Ok(())
+}
+
+/// Appends a field of the cells at the places.
+fn put_row_field(
+    alloc: Global,
+    out: &mut Vec<u8>,
+    field: u32,
+    places: &[usize],
+    cells: &[Cell],
+) -> Result<(), OutOfMemory>
+    requires low { 1 ≤ field }
+    requires high { field < 2 ^ 29 }
+    ensures { OnOk result (out.new.items ≡ out.old.items ++ field_bytes field (sized (spelling (row true) (row_of (project places.now cells.now))))) }
+{
+    let start = out.len();
+    put_row(alloc, out, places, cells)?;
+    enclose(alloc, out, start, field)?;
     Ok(())
 }
 
@@ -125,7 +137,6 @@ fn put_row(
 fn put_image(
     alloc: Global,
     out: &mut Vec<u8>,
-    parts: &mut RowParts,
     field: u32,
     select: &BoundSelect,
     image: &Option<Image>,
@@ -141,16 +152,7 @@ fn put_image(
     if !select.keeps(image) {
         return Ok(false);
     }
-    parts.row.clear();
-    put_row(
-        alloc,
-        &mut parts.row,
-        &mut parts.lengths,
-        &mut parts.values,
-        select.columns(),
-        image.cells(),
-    )?;
-    put_bytes(alloc, out, field, parts.row.as_slice())?;
+    put_row_field(alloc, out, field, select.columns(), image.cells())?;
     Ok(true)
 }
 
@@ -160,19 +162,20 @@ fn is_either(a: bool, b: bool) -> bool
     a || b
 }
 
-/// Spells `keyspace.table`.
+/// Appends the field of a table's name, `keyspace.table`.
 pub(crate) fn put_table_name(
+    alloc: Global,
     out: &mut Vec<u8>,
     name: &ShardName,
     table: &[u8],
 ) -> Result<(), OutOfMemory>
-    ensures { OnOk result (out.new.items ≡ table_name name.now.keyspace table.now) }
+    ensures { OnOk result (out.new.items ≡ out.old.items ++ values_bytes 1 (if_any (table_name name.now.keyspace table.now))) }
 {
-    out.clear();
+    let start = out.len();
     out.extend_from_slice(name.keyspace.as_bytes())?;
     out.push(b'.')?;
     out.extend_from_slice(table)?;
-    Ok(())
+    enclose_any(alloc, out, start, 1)
 }
 
 /// The picked table of a name.
@@ -186,15 +189,6 @@ impl SpelledRow {
     pub(crate) fn new(alloc: Global) -> SpelledRow {
         SpelledRow {
             bytes: Vec::new(alloc),
-            parts: RowParts {
-                lengths: Vec::new(alloc),
-                values: Vec::new(alloc),
-                row: Vec::new(alloc),
-            },
-            change: Vec::new(alloc),
-            table: Vec::new(alloc),
-            message: Vec::new(alloc),
-            event: Vec::new(alloc),
         }
     }
 
@@ -210,38 +204,16 @@ impl SpelledRow {
         ensures kept { IfOk result (λ b. b ≡ (is_some (option_and_then (taken_row select.now) change.now.before) || is_some (option_and_then (taken_row select.now) change.now.after))) }
         ensures spelled { OnOk result (self.new.bytes.items ≡ said_bytes (head_of name.now time) (Changed (taken_change select.now change.now) ∷ [])) }
     {
-        self.change.clear();
-        let before = put_image(
-            alloc,
-            &mut self.change,
-            &mut self.parts,
-            1,
-            select,
-            &change.before,
-        )?;
-        let after = put_image(
-            alloc,
-            &mut self.change,
-            &mut self.parts,
-            2,
-            select,
-            &change.after,
-        )?;
-        put_table_name(&mut self.table, name, change.table.as_bytes())?;
-        self.message.clear();
-        put_text(alloc, &mut self.message, 1, self.table.as_slice())?;
-        put_bytes(alloc, &mut self.message, 2, self.change.as_slice())?;
         self.bytes.clear();
-        put_event_around(
-            alloc,
-            &mut self.bytes,
-            &mut self.event,
-            name,
-            time,
-            event_kind::ROW as u32,
-            5,
-            self.message.as_slice(),
-        )?;
+        self.bytes.reserve(FIRST_ROOM)?;
+        put_start(alloc, &mut self.bytes, name, time, event_kind::ROW as u32)?;
+        let inside = self.bytes.len();
+        put_table_name(alloc, &mut self.bytes, name, change.table.as_bytes())?;
+        let change_start = self.bytes.len();
+        let before = put_image(alloc, &mut self.bytes, 1, select, &change.before)?;
+        let after = put_image(alloc, &mut self.bytes, 2, select, &change.after)?;
+        enclose(alloc, &mut self.bytes, change_start, 2)?;
+        close_event(alloc, &mut self.bytes, 0, inside, name, time, 5)?;
         Ok(is_either(before, after))
     }
 

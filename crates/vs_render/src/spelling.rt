@@ -1,5 +1,5 @@
 //! Events, spelled without messages in between.
-ghost use Rattle.std.specs.Prelude.{◌≡◌, ◌++◌, ◌<◌, ◌≤◌, ◌^◌, [], ◌∷◌, OnOk, pos, true};
+ghost use Rattle.std.specs.Prelude.{◌≡◌, ◌++◌, ◌<◌, ◌≤◌, ◌^◌, [], ◌∷◌, List, OnOk, drop, length, pos, take, ℕ, ℤ};
 ghost use Rattle.std.specs.Int.{cast_unsigned, w64};
 ghost use Rattle.vs_wire.specs.Fields.{field_bytes, sized};
 ghost use Rattle.vs_proto.specs.Frames.{events_bytes};
@@ -12,7 +12,7 @@ use crate::OutOfMemory;
 use std::alloc::Global;
 use vs_base::ShardName;
 use vs_proto::{VGtid, event_kind, write_vgtid};
-use vs_wire::{put_bytes, put_number};
+use vs_wire::{put_bytes, put_number, put_varint};
 
 /// Appends a field of a number, unless it is 0.
 pub(crate) fn put_nonzero(
@@ -48,8 +48,56 @@ pub(crate) fn put_text(
     put_bytes(alloc, out, field, bytes)
 }
 
+/// Puts what stands behind a place in front of what stands between two.
+fn bring_forward(bytes: &mut [u8], start: usize, end: usize)
+    requires ordered { start ≤ end }
+    requires within { end ≤ length bytes.old }
+    ensures items { bytes.new ≡ take start bytes.old ++ (drop end bytes.old ++ drop start (take end bytes.old)) }
+    ensures len { length bytes.new ≡ length bytes.old }
+{
+    let head = bytes.len() - end;
+    bytes[start..].rotate_right(head);
+}
+
+/// Puts the head of a field in front of the bytes from a place on, which are its value.
+pub(crate) fn enclose(
+    alloc: Global,
+    out: &mut Vec<u8>,
+    start: usize,
+    field: u32,
+) -> Result<(), OutOfMemory>
+    requires low { 1 ≤ field }
+    requires high { field < 2 ^ 29 }
+    requires within { start ≤ length out.old.items }
+    ensures { OnOk result (out.new.items ≡ take start out.old.items ++ field_bytes field (sized (drop start out.old.items))) }
+{
+    let end = out.len();
+    put_varint(alloc, out, u64::from(field) * 8 + 2)?;
+    put_varint(alloc, out, (end - start) as u64)?;
+    bring_forward(out.as_mut_slice(), start, end);
+    Ok(())
+}
+
+/// The same of a field that isn't written where it has no bytes.
+pub(crate) fn enclose_any(
+    alloc: Global,
+    out: &mut Vec<u8>,
+    start: usize,
+    field: u32,
+) -> Result<(), OutOfMemory>
+    requires low { 1 ≤ field }
+    requires high { field < 2 ^ 29 }
+    requires within { start ≤ length out.old.items }
+    ensures { OnOk result (out.new.items ≡ take start out.old.items ++ values_bytes field (if_any (drop start out.old.items))) }
+{
+    if out.len() == start {
+        return Ok(());
+    }
+    enclose(alloc, out, start, field)
+}
+
 /// Appends the kind of an event, and its time.
-fn put_start(
+pub(crate) fn put_start(
     alloc: Global,
     out: &mut Vec<u8>,
     name: &ShardName,
@@ -72,26 +120,26 @@ fn put_end(alloc: Global, out: &mut Vec<u8>, name: &ShardName, time: u32) -> Res
     Ok(())
 }
 
-/// Appends an event whose own field is a message. `event` is a room for its parts.
-pub(crate) fn put_event_around(
+/// Ends the event that begins at a place. What stands behind another place of it is the message of its own field.
+pub(crate) fn close_event(
     alloc: Global,
     out: &mut Vec<u8>,
-    event: &mut Vec<u8>,
+    start: usize,
+    inside: usize,
     name: &ShardName,
     time: u32,
-    kind: u32,
     field: u32,
-    message: &[u8],
 ) -> Result<(), OutOfMemory>
     requires low { 1 ≤ field }
     requires high { field < 2 ^ 29 }
-    ensures { OnOk result (out.new.items ≡ out.old.items ++ event_around (head_of name.now time) (pos kind) (field_bytes field (sized message.now))) }
+    requires ordered { start ≤ inside }
+    requires within { inside ≤ length out.old.items }
+    ensures { (front message : List ℕ) (kind : ℤ) → out.old.items ≡ front ++ (event_start (head_of name.now time) kind ++ message) → start ≡ length front → inside ≡ length (front ++ event_start (head_of name.now time) kind) →
+        OnOk result (out.new.items ≡ front ++ event_around (head_of name.now time) kind (field_bytes field (sized message))) }
 {
-    event.clear();
-    put_start(alloc, event, name, time, kind)?;
-    put_bytes(alloc, event, field, message)?;
-    put_end(alloc, event, name, time)?;
-    put_bytes(alloc, out, 1, event.as_slice())?;
+    enclose(alloc, out, inside, field)?;
+    put_end(alloc, out, name, time)?;
+    enclose(alloc, out, start, 1)?;
     Ok(())
 }
 
@@ -105,10 +153,10 @@ pub(crate) fn put_plain_event(
 ) -> Result<(), OutOfMemory>
     ensures { OnOk result (out.new.items ≡ out.old.items ++ events_bytes (plain_event (head_of name.now time) (pos kind) ∷ [])) }
 {
-    let mut event = Vec::new(alloc);
-    put_start(alloc, &mut event, name, time, kind)?;
-    put_end(alloc, &mut event, name, time)?;
-    put_bytes(alloc, out, 1, event.as_slice())?;
+    let start = out.len();
+    put_start(alloc, out, name, time, kind)?;
+    put_end(alloc, out, name, time)?;
+    enclose(alloc, out, start, 1)?;
     Ok(())
 }
 
@@ -122,18 +170,10 @@ pub(crate) fn put_vector(
 ) -> Result<(), OutOfMemory>
     ensures { OnOk result (out.new.items ≡ out.old.items ++ events_bytes (vector_event (head_of name.now time) vgtid.now ∷ [])) }
 {
-    let mut message = Vec::new(alloc);
-    write_vgtid(alloc, &mut message, vgtid)?;
-    let mut event = Vec::new(alloc);
-    put_event_around(
-        alloc,
-        out,
-        &mut event,
-        name,
-        time,
-        event_kind::VGTID as u32,
-        7,
-        message.as_slice(),
-    )?;
+    let start = out.len();
+    put_start(alloc, out, name, time, event_kind::VGTID as u32)?;
+    let inside = out.len();
+    write_vgtid(alloc, out, vgtid)?;
+    close_event(alloc, out, start, inside, name, time, 7)?;
     Ok(())
 }
