@@ -11,6 +11,7 @@ use Rattle.vs_base.specs.declared.Why.{Why}
 use Rattle.vs_base.specs.Names.{same_name}
 use Rattle.vs_base.proofs.NameLemmas.{same_name-is}
 use Rattle.vs_gtid.specs.declared.Entry.{Entry}
+use Rattle.vs_gtid.specs.declared.JournalValue.{JournalValue}
 use Rattle.vs_gtid.specs.Positions.{Position, IsCanonical, IsSubset}
 use Rattle.vs_gtid.specs.Logs.{Log, HaveDistinctGtids}
 use Rattle.vs_outside.specs.Clusters.{Shard, ClusterBytes, find_shard}
@@ -18,7 +19,7 @@ use Rattle.vs_outside.specs.Counts.{Rose}
 use Rattle.vs_outside.specs.Told.{Writes}
 use Rattle.vs_outside.proofs.ToldLemmas.{Writes-none, Writes-weaken}
 use Rattle.vs_command.specs.declared.fetched.Fetched.{Fetched}
-use Rattle.vs_model.specs.Logs.{Cluster, LogsAreDistinct, log_of, after, due, stop, IsPositionAfter}
+use Rattle.vs_model.specs.Logs.{Cluster, LogsAreDistinct, log_of, due, stop, IsPositionAfter}
 use Rattle.vs_gtid.specs.Vectors.{Place, place_of}
 use Rattle.vs_gtid.specs.Vectors.Place.{Streaming}
 use Rattle.vs_model.specs.Frames.{Frame, last_vector}
@@ -35,7 +36,6 @@ use Rattle.vs_render.specs.Frames.{frames_bytes}
 use Rattle.vs_schema.specs.declared.schema.Schema.{Schema}
 use Rattle.vs_schema.specs.Rules.{schema_of}
 use Rattle.vs_command.specs.Fetched.{IsFetchedOf, IsOfShard, IsPlaced, read_as}
-use Rattle.vs_entries.specs.Laws.{AreNoJournals}
 use Rattle.vs_command.specs.Laws.{Laws}
 use Rattle.vs_log.specs.Laws.{AlwaysNewGtids}
 use Rattle.vs_rows.specs.Tables.{Tables}
@@ -45,10 +45,9 @@ use Rattle.vs_command.specs.Streaming.Headline.{asked, silent}
 use Rattle.vs_command.specs.Streaming.Outcome.{unread, answers}
 use Rattle.vs_command.specs.Streaming.{Answers, Filtered, Headline, HasBadLogCause, HasCause, HasFault, HasLogCause, HasSentAll, IsBeforeStream, IsStart, IsStreamed, IsStreamedFrom, IsUnread, Outcome, cluster_meant, filter_of, picks_in, places_in, shard_log, shard_places, shard_rules, schema_in, start_at, tables_in, telling_of}
 use Rattle.vs_command.proofs.FetchLemmas.{schema_read}
-use Rattle.vs_command.proofs.SizeLemmas.{in_front, placed_so}
+use Rattle.vs_command.proofs.SizeLemmas.{placed_so}
 use Rattle.vs_command.proofs.StreamLemmas.{IsStreamedFrom-weaken}
-use Rattle.vs_command.proofs.LegalLemmas.{PicksFrom, after_all, after_no_journals, copies_sent, due_all, frames_spelled, last_sent, steps_sent, stop_none}
-use Rattle.vs_entries.specs.Rules.{IsNoJournal}
+use Rattle.vs_command.proofs.LegalLemmas.{PicksFrom, after_all, copies_sent, frames_spelled, last_sent, steps_sent}
 
 -- the log of a shard of the cluster is what its bytes mean
 log_of-meant : (cluster : ClusterBytes) (s : ShardName) (shard : Shard) → find_shard cluster s ≡ Some shard → log_of (cluster_meant cluster) s ≡ shard_log s shard.schema shard.log
@@ -89,73 +88,84 @@ at_only s t p place h = go (same_name s t) refl h
     go false e found = absurd (cc)
 
 -- what is due behind the entries that were sent
-due_behind : Laws → (cluster : Cluster) (s : ShardName) → LogsAreDistinct cluster → AreNoJournals (log_of cluster s).entries → (p : Position) (sent rest : List Entry) →
-    after (log_of cluster s) p ≡ sent ++ rest → due s (log_of cluster s) (position_after p sent) ≡ rest
-due_behind laws cluster s distinct plain p sent rest are =
-    laws.due s (log_of cluster s) p (position_after p sent) sent rest (distinct s) (due_all s (log_of cluster s) p plain ∙ are) (after_all p sent)
+due_behind : Laws → (cluster : Cluster) (s : ShardName) → LogsAreDistinct cluster → (p : Position) (sent rest : List Entry) →
+    due s (log_of cluster s) p ≡ sent ++ rest → due s (log_of cluster s) (position_after p sent) ≡ rest
+due_behind laws cluster s distinct p sent rest are =
+    laws.due s (log_of cluster s) p (position_after p sent) sent rest (distinct s) are (after_all p sent)
 
-settled_at : Laws → (cluster : Cluster) (s : ShardName) → LogsAreDistinct cluster → AreNoJournals (log_of cluster s).entries → (p : Position) (sent rest : List Entry) →
-    after (log_of cluster s) p ≡ sent ++ rest → rest ≡ [] → IsSettled cluster (vector_at s (position_after p sent))
-settled_at laws cluster s distinct plain p sent rest are none t place h =
+settled_at : Laws → (cluster : Cluster) (s : ShardName) → LogsAreDistinct cluster → (p : Position) (sent rest : List Entry) →
+    due s (log_of cluster s) p ≡ sent ++ rest → rest ≡ [] → stop s (log_of cluster s) p ≡ None → IsSettled cluster (vector_at s (position_after p sent))
+settled_at laws cluster s distinct p sent rest are none unstopped t place h =
     let log : Log = log_of cluster s in
     let q : Position = position_after p sent in
     let it = at_only s t q place h in
-    let none_due : due s log q ≡ [] = due_behind laws cluster s distinct plain p sent rest are ∙ none in
+    let none_due : due s log q ≡ [] = due_behind laws cluster s distinct p sent rest are ∙ none in
     let none_stops : stop s log q ≡ None =
-    laws.stop s log p q sent rest (distinct s) (due_all s log p plain ∙ are) (after_all p sent) ∙ stop_none s log p plain in
+    laws.stop s log p q sent rest (distinct s) are (after_all p sent) ∙ unstopped in
     (q, it.1, subst (λ u. due u (log_of cluster u) q ≡ []) it.0 none_due, subst (λ u. stop u (log_of cluster u) q ≡ None) it.0 none_stops)
 
-sent_all : Laws → (tables : List Picked) (cluster : Cluster) (s : ShardName) → LogsAreDistinct cluster → AreNoJournals (log_of cluster s).entries → (p : Position) (sent rest : List Entry) →
-    after (log_of cluster s) p ≡ sent ++ rest → rest ≡ [] → IsSubset (log_of cluster s).base p → HasSentAll cluster s p (last_vector (vector_at s p) (entry_frames tables s p sent))
-sent_all laws tables cluster s distinct plain p sent rest are none base = record {
+sent_all : Laws → (tables : List Picked) (cluster : Cluster) (s : ShardName) → LogsAreDistinct cluster → (p : Position) (sent rest : List Entry) →
+    due s (log_of cluster s) p ≡ sent ++ rest → rest ≡ [] → stop s (log_of cluster s) p ≡ None → IsSubset (log_of cluster s).base p → HasSentAll cluster s p (last_vector (vector_at s p) (entry_frames tables s p sent))
+sent_all laws tables cluster s distinct p sent rest are none unstopped base = record {
   base = base;
-  settled = subst (λ v. IsSettled cluster v) (sym (last_sent tables s p sent)) (settled_at laws cluster s distinct plain p sent rest are none);
+  settled = subst (λ v. IsSettled cluster v) (sym (last_sent tables s p sent)) (settled_at laws cluster s distinct p sent rest are none unstopped);
 }
 
 -- what is wrong with a log
-bad_log_caused : Laws → (stands : Gtid → ℕ → Type 0) (tables : List Picked) (cluster : Cluster) (s : ShardName) → LogsAreDistinct cluster → AreNoJournals (log_of cluster s).entries →
-    (p : Position) (sent rest : List Entry) (offset : ℕ) (why : Why) → after (log_of cluster s) p ≡ sent ++ rest → HasFault stands tables s (log_of cluster s) p rest offset why →
+bad_log_caused : Laws → (stands : Gtid → ℕ → Type 0) (tables : List Picked) (cluster : Cluster) (s : ShardName) → LogsAreDistinct cluster →
+    (p : Position) (sent rest : List Entry) (offset : ℕ) (why : Why) → due s (log_of cluster s) p ≡ sent ++ rest → HasFault stands tables s (log_of cluster s) p rest offset why →
     HasBadLogCause stands tables cluster s p (entry_frames tables s p sent) offset why
-bad_log_caused laws stands tables cluster s distinct plain p sent rest offset why are (◌⊎◌.inl (own, none, base)) =
-    ◌⊎◌.inl (own, sent_all laws tables cluster s distinct plain p sent rest are none base)
-bad_log_caused laws stands tables cluster s distinct plain p sent rest offset why are (◌⊎◌.inr (bytes, is, next, base)) = ◌⊎◌.inr (
+bad_log_caused laws stands tables cluster s distinct p sent rest offset why are (◌⊎◌.inl (own, none, base, unstopped)) =
+    ◌⊎◌.inl (own, sent_all laws tables cluster s distinct p sent rest are none unstopped base)
+bad_log_caused laws stands tables cluster s distinct p sent rest offset why are (◌⊎◌.inr (bytes, is, next, base)) = ◌⊎◌.inr (
   bytes,
   is,
   record {
     base = base;
     q = position_after p sent;
     is = last_sent tables s p sent;
-    oversized = subst (λ es. IsNextOversized stands tables s es offset bytes) (sym (due_behind laws cluster s distinct plain p sent rest are)) next;
+    oversized = subst (λ es. IsNextOversized stands tables s es offset bytes) (sym (due_behind laws cluster s distinct p sent rest are)) next;
   },
 )
 
 -- what an answer says of a log, it says of the shard and its vector
-caused : Laws → (stands : Gtid → ℕ → Type 0) (tables : List Picked) (cluster : Cluster) (s : ShardName) → LogsAreDistinct cluster → AreNoJournals (log_of cluster s).entries →
-    (p : Position) (sent rest : List Entry) (status : Status) → after (log_of cluster s) p ≡ sent ++ rest → HasLogCause stands tables s (log_of cluster s) p sent rest status →
+caused : Laws → (stands : Gtid → ℕ → Type 0) (tables : List Picked) (cluster : Cluster) (s : ShardName) → LogsAreDistinct cluster →
+    (p : Position) (sent rest : List Entry) (status : Status) → due s (log_of cluster s) p ≡ sent ++ rest → HasLogCause stands tables s (log_of cluster s) p sent rest status →
     HasCause stands tables cluster s p (entry_frames tables s p sent) status
-caused laws stands tables cluster s distinct plain p sent rest statuses.Done are cause = (sent_all laws tables cluster s distinct plain p sent rest are cause.0 cause.1, cause.2)
-caused laws stands tables cluster s distinct plain p sent rest (statuses.BadLog name offset why) are cause =
-    (cause.0, bad_log_caused laws stands tables cluster s distinct plain p sent rest offset why are cause.1)
-caused laws stands tables cluster s distinct plain p sent rest (statuses.Purged name missing) are cause = (cause.0, cause.1, ap (λ es. entry_frames tables s p es) cause.2)
-caused laws stands tables cluster s distinct plain p sent rest (statuses.PositionTooLarge name) are cause = (
+caused laws stands tables cluster s distinct p sent rest statuses.Done are cause = (sent_all laws tables cluster s distinct p sent rest are cause.0 cause.2 cause.1, cause.3)
+caused laws stands tables cluster s distinct p sent rest (statuses.BadLog name offset why) are cause =
+    (cause.0, bad_log_caused laws stands tables cluster s distinct p sent rest offset why are cause.1)
+caused laws stands tables cluster s distinct p sent rest (statuses.Purged name missing) are cause = (cause.0, cause.1, ap (λ es. entry_frames tables s p es) cause.2)
+caused laws stands tables cluster s distinct p sent rest (statuses.PositionTooLarge name) are cause = (
   cause.0,
   record {
     base = cause.2;
     q = position_after p sent;
     is = last_sent tables s p sent;
-    large = subst (λ es. IsNextTooLarge (position_after p sent) es) (sym (due_behind laws cluster s distinct plain p sent rest are)) cause.1;
+    large = subst (λ es. IsNextTooLarge (position_after p sent) es) (sym (due_behind laws cluster s distinct p sent rest are)) cause.1;
   },
 )
-caused laws stands tables cluster s distinct plain p sent rest statuses.LinkFault are cause = cause
-caused laws stands tables cluster s distinct plain p sent rest statuses.Memory are cause = tt
-caused laws stands tables cluster s distinct plain p sent rest statuses.Usage are cause = absurd cause
-caused laws stands tables cluster s distinct plain p sent rest (statuses.BadFrame number frame_why) are cause = absurd cause
-caused laws stands tables cluster s distinct plain p sent rest (statuses.Request fault) are cause = absurd cause
-caused laws stands tables cluster s distinct plain p sent rest (statuses.UnknownShard name) are cause = absurd cause
-caused laws stands tables cluster s distinct plain p sent rest (statuses.FeedFault name) are cause = absurd cause
-caused laws stands tables cluster s distinct plain p sent rest statuses.InputFault are cause = absurd cause
-caused laws stands tables cluster s distinct plain p sent rest (statuses.OpenFault name) are cause = absurd cause
-caused laws stands tables cluster s distinct plain p sent rest (statuses.BadSchema name line) are cause = absurd cause
+caused laws stands tables cluster s distinct p sent rest (statuses.Stopped name id) are cause =
+    let j : JournalValue = cause.3.0 in (
+      cause.0,
+      record {
+        base = cause.2;
+        q = position_after p sent;
+        is = last_sent tables s p sent;
+        none = due_behind laws cluster s distinct p sent rest are ∙ cause.1;
+        stopped = (j, laws.stop s (log_of cluster s) p (position_after p sent) sent rest (distinct s) are (after_all p sent) ∙ cause.3.1, cause.3.2);
+      },
+    )
+caused laws stands tables cluster s distinct p sent rest statuses.LinkFault are cause = cause
+caused laws stands tables cluster s distinct p sent rest statuses.Memory are cause = tt
+caused laws stands tables cluster s distinct p sent rest statuses.Usage are cause = absurd cause
+caused laws stands tables cluster s distinct p sent rest (statuses.BadFrame number frame_why) are cause = absurd cause
+caused laws stands tables cluster s distinct p sent rest (statuses.Request fault) are cause = absurd cause
+caused laws stands tables cluster s distinct p sent rest (statuses.UnknownShard name) are cause = absurd cause
+caused laws stands tables cluster s distinct p sent rest (statuses.FeedFault name) are cause = absurd cause
+caused laws stands tables cluster s distinct p sent rest statuses.InputFault are cause = absurd cause
+caused laws stands tables cluster s distinct p sent rest (statuses.OpenFault name) are cause = absurd cause
+caused laws stands tables cluster s distinct p sent rest (statuses.BadSchema name line) are cause = absurd cause
 
 Answers-streamed : Laws → (cluster : ClusterBytes) (s : ShardName) (start : Start) (rules : List RuleText) (whole waited : Type 0) (shard : Shard) (tables : List Picked) (status : Status) (written : List ℕ) (p : Position) →
     ((waited → ⊥) → whole) → find_shard cluster s ≡ Some shard → tables ≡ picks_in rules (Some shard) → IsStart (shard_log s shard.schema shard.log) start whole p → IsCanonical p →
@@ -164,11 +174,9 @@ Answers-streamed laws cluster s start rules whole waited shard tables status wri
     let meant : log_of (cluster_meant cluster) s ≡ shard_log s shard.schema shard.log = log_of-meant cluster s shard found in
     let distinct : LogsAreDistinct (cluster_meant cluster) = distinct_meant laws.new_gtids cluster in
     let log : Log = log_of (cluster_meant cluster) s in
-    let plain : AreNoJournals log.entries = subst (λ (l : Log). AreNoJournals l.entries) (sym meant) (laws.no_journals s.keyspace (schema_in shard.schema) shard.log) in
     let stands : Gtid → ℕ → Type 0 = shard_places s shard.schema shard.log in
     let here : IsStart log start whole p = subst (λ (l : Log). IsStart l start whole p) (sym meant) starts in
-    let are : after log p ≡ streamed.sent ++ streamed.rest = ap (λ (l : Log). after l p) meant ∙ streamed.are in
-    let sent : AreNoJournals streamed.sent = in_front (λ (e : Entry). IsNoJournal e.work) streamed.sent streamed.rest (subst (λ es. AreNoJournals es) are (after_no_journals log p plain)) in
+    let are : due s log p ≡ streamed.sent ++ streamed.rest = ap (λ (l : Log). due s l p) meant ∙ streamed.are in
     let base : (streamed.sent ≡ []) ⊎ IsSubset log.base p = subst (λ (l : Log). (streamed.sent ≡ []) ⊎ IsSubset l.base p) (sym meant) streamed.base in
     let frames : List Frame = entry_frames tables s p streamed.sent in
     let picked : tables ≡ picks_in rules (find_shard cluster s) = picks ∙ ap (λ o. picks_in rules o) (sym found) in
@@ -182,14 +190,14 @@ Answers-streamed laws cluster s start rules whole waited shard tables status wri
       first = first_of (cluster_meant cluster) s start whole p here canonical;
       at_end = λ current never. starts_at_end log start whole p here current (unwaited never);
       legal = laws.steps (cluster_meant cluster) (filter_of rules cluster) (vector_at s p) frames distinct (copies_sent tables s p streamed.sent)
-          (steps_sent laws.transactions laws.due (cluster_meant cluster) (filter_of rules cluster) tables s from distinct p streamed.sent streamed.rest sent (due_all s log p plain ∙ are) base streamed.canonical);
+          (steps_sent laws.transactions laws.due (cluster_meant cluster) (filter_of rules cluster) tables s from distinct p streamed.sent streamed.rest are base streamed.canonical);
       bytes = entries_bytes tables s p streamed.sent;
       spelled = sym spelled;
       prefix = streamed.prefix;
       whole = streamed.whole;
       cause = subst (λ ts. HasCause (places_in (find_shard cluster s) s) ts (cluster_meant cluster) s p frames status) picked
           (subst (λ o. HasCause (places_in o s) tables (cluster_meant cluster) s p frames status) (sym found)
-          (caused laws stands tables (cluster_meant cluster) s distinct plain p streamed.sent streamed.rest status are
+          (caused laws stands tables (cluster_meant cluster) s distinct p streamed.sent streamed.rest status are
           (subst (λ (l : Log). HasLogCause stands tables s l p streamed.sent streamed.rest status) (sym meant) streamed.cause)));
     }
 

@@ -17,7 +17,7 @@ use Rattle.vs_command.specs.declared.status.RequestFault.{RequestFault}
 use Rattle.vs_command.specs.declared.status.RequestFault.TheVariants as status_fault
 use Rattle.vs_command.specs.declared.status.RequestFault.TheVariants.{Cut, TooLong, NoShards, TooManyShards, BadName, BadPosition, NeedsShard, TooManyKeys, LongKey, TooManyRules, BadPattern, PatternRefused, BadRule}
 use Rattle.vs_command.specs.declared.status.Status.{Status}
-use Rattle.vs_command.specs.declared.status.Status.TheVariants.{Done, Memory, Usage, Request, UnknownShard, Purged, BadLog, FeedFault, LinkFault, InputFault, OpenFault, PositionTooLarge, BadSchema, BadFrame}
+use Rattle.vs_command.specs.declared.status.Status.TheVariants.{Done, Memory, Usage, Request, UnknownShard, Purged, BadLog, FeedFault, LinkFault, InputFault, OpenFault, PositionTooLarge, Stopped, BadSchema, BadFrame}
 use Rattle.vs_command.specs.declared.fetched.Fetched.{Fetched}
 use Rattle.vs_command.specs.Causes.{AnswersRules, AsksByItsLog, HasRead, HoldsBase, IsBindingFault, IsDue, IsOutside, IsOwed, IsUnbound, LogAsksFor, RefusesRules, RulesAskFor, ShardAsksFor, refusal_status}
 use Rattle.vs_command.specs.Fetched.{IsFetchedOf, IsOfShard, IsPlaced, read_as}
@@ -38,6 +38,7 @@ asked_log cluster input name start rules shard Done asks found by = (name, start
 asked_log cluster input name start rules shard (BadLog n offset why) asks found by = (name, start, rules, shard, asks, found, by)
 asked_log cluster input name start rules shard (Purged n missing) asks found by = (name, start, rules, shard, asks, found, by)
 asked_log cluster input name start rules shard (PositionTooLarge n) asks found by = (name, start, rules, shard, asks, found, by)
+asked_log cluster input name start rules shard (Stopped n id) asks found by = (name, start, rules, shard, asks, found, by)
 asked_log cluster input name start rules shard Memory asks found by = (name, start, rules, shard, asks, found, by)
 asked_log cluster input name start rules shard Usage asks found by = (name, start, rules, shard, asks, found, by)
 asked_log cluster input name start rules shard (BadFrame number frame_why) asks found by = (name, start, rules, shard, asks, found, by)
@@ -80,6 +81,7 @@ asked_brought cluster input name start rules (UnknownShard n) asks brought = abs
 asked_brought cluster input name start rules (Purged n missing) asks brought = absurd brought
 asked_brought cluster input name start rules (BadLog n offset why) asks brought = absurd brought
 asked_brought cluster input name start rules (PositionTooLarge n) asks brought = absurd brought
+asked_brought cluster input name start rules (Stopped n id) asks brought = absurd brought
 asked_brought cluster input name start rules (BadSchema n line) asks brought = absurd brought
 
 -- the rules by which a shard was asked for have a fault
@@ -332,6 +334,7 @@ brought_fetched s start rules (UnknownShard name) text bytes f tables fetched br
 brought_fetched s start rules (Purged name missing) text bytes f tables fetched brought shard of = absurd brought
 brought_fetched s start rules (BadLog name offset why) text bytes f tables fetched brought shard of = absurd brought
 brought_fetched s start rules (PositionTooLarge name) text bytes f tables fetched brought shard of = absurd brought
+brought_fetched s start rules (Stopped name id) text bytes f tables fetched brought shard of = absurd brought
 brought_fetched s start rules (BadSchema name line) text bytes f tables fetched brought shard of = absurd brought
 
 pub due_streamed : (told : Option ClusterBytes) (s : ShardName) (start : Start) (rules : List Meant) (status : Status) (text bytes : List ℕ) (f : Fetched) (tables : List Picked) → IsFetchedOf s rules text bytes f tables →
@@ -395,6 +398,7 @@ has_read before now (FeedFault name) kind took = took
 has_read before now LinkFault kind took = took
 has_read before now (OpenFault name) kind took = took
 has_read before now (PositionTooLarge name) kind took = took
+has_read before now (Stopped name id) kind took = took
 has_read before now (BadSchema name line) kind took = took
 
 -- what is said of any cluster and any input

@@ -1,5 +1,5 @@
 -- An input and a cluster ask for one answer.
-use Rattle.std.proofs.Common.{◌≡◌, ℕ, ◌-◌, ◌^◌, min, false, List, map, Option, Some, None, Result, Ok, Err, refl, sym, ap, subst, ◌∙◌, arith}
+use Rattle.std.proofs.Common.{◌≡◌, ℕ, ℤ, ◌-◌, ◌^◌, min, false, List, map, Option, Some, None, Result, Ok, Err, refl, sym, ap, subst, ◌∙◌, arith}
 use Rattle.std.specs.Prelude.{◌⊎◌, IfSome}
 use Rattle.std.specs.Cmp.Lexicographic.{slice_cmp}
 use Rattle.std.specs.Ordering.{nat_cmp, is_gt, ordering_then, ordering_reverse}
@@ -16,6 +16,7 @@ use Rattle.vs_base.specs.declared.Why.{Why}
 use Rattle.vs_base.specs.declared.Why.TheVariants.{TooLarge}
 use Rattle.vs_filter.specs.declared.bound.Picked.{Picked}
 use Rattle.vs_gtid.specs.declared.Entry.{Entry}
+use Rattle.vs_gtid.specs.declared.JournalValue.{JournalValue}
 use Rattle.vs_schema.specs.declared.schema.Schema.{Schema}
 use Rattle.vs_schema.specs.declared.refusal.SchemaRefusal.{SchemaRefusal}
 use Rattle.vs_schema.specs.declared.refusal.SchemaRefusal.TheVariants as refusal
@@ -31,20 +32,20 @@ use Rattle.vs_gtid.specs.Missing.{IsFirstMissing, comes_after}
 use Rattle.vs_gtid.specs.Positions.{Position, IsSubset}
 use Rattle.vs_gtid.proofs.MissingLemmas.{not_subset}
 use Rattle.vs_outside.specs.Clusters.{ClusterBytes, Shard, find_shard}
-use Rattle.vs_model.specs.Logs.{after}
+use Rattle.vs_model.specs.Logs.{due, stop}
 use Rattle.vs_command.specs.declared.start.Start.{Start}
 use Rattle.vs_command.specs.declared.start.Start.TheVariants.{At, Current}
 use Rattle.vs_command.specs.declared.status.RequestFault.{RequestFault}
 use Rattle.vs_command.specs.declared.status.RequestFault.TheVariants as status_fault
 use Rattle.vs_command.specs.declared.status.Status.{Status}
-use Rattle.vs_command.specs.declared.status.Status.TheVariants.{Done, Memory, Usage, Request, UnknownShard, Purged, BadLog, FeedFault, LinkFault, InputFault, OpenFault, PositionTooLarge, BadSchema, BadFrame}
+use Rattle.vs_command.specs.declared.status.Status.TheVariants.{Done, Memory, Usage, Request, UnknownShard, Purged, BadLog, FeedFault, LinkFault, InputFault, OpenFault, PositionTooLarge, Stopped, BadSchema, BadFrame}
 use Rattle.vs_command.specs.Sizes.{IsOversized, first_oversized, sendable_front, size_over}
-use Rattle.vs_command.specs.Causes.{AnswersBy, AsksByItsLog, CanBeSent, StreamEndsAt, EndsWith, IsDue, IsDueBy, IsFaultDue, IsFrom, IsOutside, IsOwed, LogAsksFor, LogOwes, PositionAsksFor, ShardAsksFor}
+use Rattle.vs_command.specs.Causes.{AnswersBy, AsksByItsLog, CanBeSent, EndsAtJournal, StreamEndsAt, EndsWith, IsDue, IsDueBy, IsFaultDue, IsFrom, IsOutside, IsOwed, LogAsksFor, LogOwes, PositionAsksFor, ShardAsksFor}
 use Rattle.vs_command.specs.Laws.{Laws}
 use Rattle.vs_command.specs.Requests.{Asks, IsFaultOf}
 use Rattle.vs_command.specs.Sending.{IsTooLargeAlong}
 use Rattle.vs_command.specs.Stages.{IsBrought}
-use Rattle.vs_command.specs.Streaming.{IsUnboundIn, shard_log, shard_places, shard_rules}
+use Rattle.vs_command.specs.Streaming.{IsStoppedBy, IsUnboundIn, shard_log, shard_places, shard_rules}
 use Rattle.vs_command.proofs.PartLemmas.{gtid_of_parts}
 use Rattle.vs_command.proofs.SaidLemmas.{asks_once, fault_once, not_asked}
 
@@ -72,17 +73,19 @@ abbrev pub end_status : ShardName → Option (ℕ × Why) → Status
 end_status s None = Done
 end_status s (Some fault) = BadLog s fault.0 fault.1
 
--- which of three it is
+-- which of four it is
 pub data LogAnswer (stands : Gtid → ℕ → Type 0) (tables : List Picked) (s : ShardName) (log : Log) (p : Position) (status : Status) : Type 0 where
   ends : CanBeSent tables s log p → (fault : Option (ℕ × Why)) → EndsWith stands tables s log p fault → status ≡ end_status s fault → LogAnswer stands tables s log p status
   purged : (missing : Gtid) → IsFirstMissing log.base p missing → status ≡ Purged s missing → LogAnswer stands tables s log p status
-  large : IsSubset log.base p → IsTooLargeAlong p (sendable_front tables s (after log p)) → status ≡ PositionTooLarge s → LogAnswer stands tables s log p status
+  large : IsSubset log.base p → IsTooLargeAlong p (sendable_front tables s (due s log p)) → status ≡ PositionTooLarge s → LogAnswer stands tables s log p status
+  stopped : CanBeSent tables s log p → (id : ℤ) → EndsAtJournal tables s log p id → status ≡ Stopped s id → LogAnswer stands tables s log p status
 
 pub log_answer : (stands : Gtid → ℕ → Type 0) (tables : List Picked) (s : ShardName) (log : Log) (p : Position) (status : Status) → PositionAsksFor stands tables s log p status → LogAnswer stands tables s log p status
 log_answer stands tables s log p Done asks = ends asks.0 None asks.1 refl
 log_answer stands tables s log p (BadLog name offset why) asks = ends asks.1 (Some (offset, why)) asks.2 (ap (λ n. BadLog n offset why) asks.0)
 log_answer stands tables s log p (Purged name missing) asks = purged missing asks.1 (ap (λ n. Purged n missing) asks.0)
 log_answer stands tables s log p (PositionTooLarge name) asks = large asks.1 asks.2 (ap (λ n. PositionTooLarge n) asks.0)
+log_answer stands tables s log p (Stopped name id) asks = stopped asks.1 id asks.2 (ap (λ n. Stopped n id) asks.0)
 log_answer stands tables s log p Memory asks = absurd asks
 log_answer stands tables s log p Usage asks = absurd asks
 log_answer stands tables s log p (BadFrame number frame_why) asks = absurd asks
@@ -104,15 +107,27 @@ one_size o n m p q = let both : ◌≡◌ {A = Option ℕ} (Some n) (Some m) = s
 same_size : (tables : List Picked) (s : ShardName) (e : Entry) (a b : ℕ) → IsOversized tables s e a → IsOversized tables s e b → a ≡ b
 same_size tables s e a b (n, p, is) (m, q, too) = is ∙ ap (λ k. min k (2 ^ 64 - 1)) (one_size (size_over tables s e) n m p q) ∙ sym too
 
-one_end : (stands : Gtid → ℕ → Type 0) → StandsOnce stands → (tables : List Picked) (s : ShardName) (own : Option (ℕ × Why)) (first : Option Entry) (a b : Option (ℕ × Why)) →
-    StreamEndsAt stands tables s own first a → StreamEndsAt stands tables s own first b → a ≡ b
-one_end stands once tables s own None a b is too = is ∙ sym too
-one_end stands once tables s own (Some e) a b (m, size, here, is) (n, other, there, too) =
+one_end : (stands : Gtid → ℕ → Type 0) → StandsOnce stands → (tables : List Picked) (s : ShardName) (journal : Option JournalValue) (own : Option (ℕ × Why)) (first : Option Entry) (a b : Option (ℕ × Why)) →
+    StreamEndsAt stands tables s journal own first a → StreamEndsAt stands tables s journal own first b → a ≡ b
+one_end stands once tables s None own None a b is too = is ∙ sym too
+one_end stands once tables s (Some j) own None a b is too = absurd is
+one_end stands once tables s journal own (Some e) a b (m, size, here, is) (n, other, there, too) =
     is ∙ ap (λ k. Some (k, TooLarge size)) (once e.gtid m n here.0 there.0) ∙ ap (λ k. Some (n, TooLarge k)) (same_size tables s e size other here.1 there.1) ∙ sym too
+
+-- where a journal of the shard's own stops it, no fault ends the stream
+ends_or_stops : (stands : Gtid → ℕ → Type 0) (tables : List Picked) (s : ShardName) (log : Log) (p : Position) (fault : Option (ℕ × Why)) (id : ℤ) → EndsWith stands tables s log p fault → EndsAtJournal tables s log p id → ⊥
+ends_or_stops stands tables s log p fault id end at =
+    subst (λ j. StreamEndsAt stands tables s j log.fault None fault) at.1.1 (subst (λ o. StreamEndsAt stands tables s (stop s log p) log.fault o fault) at.0 end)
+
+one_journal : (s : ShardName) (log : Log) (p : Position) (id other : ℤ) → IsStoppedBy s log p id → IsStoppedBy s log p other → id ≡ other
+one_journal s log p id other (j, here, is) (k, there, too) =
+    let both : ◌≡◌ {A = Option JournalValue} (Some j) (Some k) = sym here ∙ there in
+    let same : j ≡ k = cc in
+    sym is ∙ ap (λ (x : JournalValue). x.id) same ∙ too
 
 pub one_answer : (stands : Gtid → ℕ → Type 0) → StandsOnce stands → (tables : List Picked) (s : ShardName) (log : Log) (p : Position) (a b : Status) → LogAnswer stands tables s log p a → LogAnswer stands tables s log p b → a ≡ b
 one_answer stands once tables s log p a b (ends can f end is) (ends more g last too) =
-    is ∙ ap (λ x. end_status s x) (one_end stands once tables s log.fault (first_oversized tables s (after log p)) f g end last) ∙ sym too
+    is ∙ ap (λ x. end_status s x) (one_end stands once tables s (stop s log p) log.fault (first_oversized tables s (due s log p)) f g end last) ∙ sym too
 one_answer stands once tables s log p a b (ends can f end is) (purged missing first too) = absurd (not_subset log.base p missing first can.base)
 one_answer stands once tables s log p a b (ends can f end is) (large base over too) = absurd (can.room over)
 one_answer stands once tables s log p a b (purged missing first is) (ends can f end too) = absurd (not_subset log.base p missing first can.base)
@@ -121,6 +136,13 @@ one_answer stands once tables s log p a b (purged missing first is) (large base 
 one_answer stands once tables s log p a b (large base over is) (ends can f end too) = absurd (can.room over)
 one_answer stands once tables s log p a b (large base over is) (purged missing first too) = absurd (not_subset log.base p missing first base)
 one_answer stands once tables s log p a b (large base over is) (large more far too) = is ∙ sym too
+one_answer stands once tables s log p a b (ends can f end is) (stopped more id at too) = absurd (ends_or_stops stands tables s log p f id end at)
+one_answer stands once tables s log p a b (stopped more id at is) (ends can f end too) = absurd (ends_or_stops stands tables s log p f id end at)
+one_answer stands once tables s log p a b (purged missing first is) (stopped can id at too) = absurd (not_subset log.base p missing first can.base)
+one_answer stands once tables s log p a b (stopped can id at is) (purged missing first too) = absurd (not_subset log.base p missing first can.base)
+one_answer stands once tables s log p a b (large base over is) (stopped can id at too) = absurd (can.room over)
+one_answer stands once tables s log p a b (stopped can id at is) (large base over too) = absurd (can.room over)
+one_answer stands once tables s log p a b (stopped can id at is) (stopped more other there too) = is ∙ ap (λ n. Stopped s n) (one_journal s log p id other at.1 there.1) ∙ sym too
 
 -- what may come is what is owed
 one_owed : (stands : Gtid → ℕ → Type 0) → StandsOnce stands → (tables : List Picked) (s : ShardName) (log : Log) (start : Start) (a b : Status) → LogAsksFor stands tables s log start a → LogOwes stands tables s log start b → a ≡ b
@@ -245,6 +267,7 @@ due_answer ask cluster input LinkFault due = of_log ask cluster input LinkFault 
 due_answer ask cluster input InputFault due = of_log ask cluster input InputFault due
 due_answer ask cluster input (OpenFault name) due = of_log ask cluster input (OpenFault name) due
 due_answer ask cluster input (PositionTooLarge name) due = of_log ask cluster input (PositionTooLarge name) due
+due_answer ask cluster input (Stopped name id) due = of_log ask cluster input (Stopped name id) due
 
 -- what one ask asks for, another one asks for too
 pub asked_again : Laws → (ask : (Gtid → ℕ → Type 0) → List Picked → ShardName → Log → Start → Status → Type 0) (cluster : ClusterBytes) (input : List ℕ) (n m : ShardName) (s t : Start) (r u : List RuleText) (status : Status) → Asks input n s r → Asks input m t u →
@@ -282,6 +305,7 @@ brought_outside cluster input (UnknownShard name) brought = brought
 brought_outside cluster input (Purged name missing) brought = brought
 brought_outside cluster input (BadLog name offset why) brought = brought
 brought_outside cluster input (PositionTooLarge name) brought = brought
+brought_outside cluster input (Stopped name id) brought = brought
 brought_outside cluster input (BadSchema name line) brought = brought
 
 -- an answer that isn't brought from outside is due

@@ -1,11 +1,11 @@
 -- The frames of a shard's first due entries are legal, and end where nothing is due where they are all of them.
-use Rattle.std.proofs.Common.{◌≡◌, ℕ, Bool, true, false, ◌||◌, not, List, [], ◌∷◌, ◌++◌, Some, None, IsTrue, if◌then◌else◌, is_some, refl, sym, ap, subst, ◌∙◌}
+use Rattle.std.proofs.Common.{◌≡◌, ℕ, Bool, true, false, ◌||◌, ◌&&◌, List, [], ◌∷◌, ◌++◌, Some, None, IsTrue, IsFalse, if◌then◌else◌, is_some, refl, sym, ap, subst, ◌∙◌}
 use Rattle.std.specs.Prelude.{IfSome, ◌⊎◌}
-use Rattle.std.specs.Option.{option_or}
+use Rattle.std.specs.List.{AllByRecursion}
 use Rattle.std.proofs.Math.Bool.{or-false, or_assoc}
 use Rattle.vs_base.specs.declared.ShardName.{ShardName}
 use Rattle.vs_base.specs.declared.Gtid.{Gtid}
-use Rattle.vs_base.specs.Names.{same_gtid}
+use Rattle.vs_base.specs.Names.{same_gtid, same_name}
 use Rattle.vs_base.specs.declared.table.Table.{Table}
 use Rattle.vs_filter.specs.Picks.{bound_in}
 use Rattle.vs_filter.specs.declared.bound.Picked.{Picked}
@@ -20,10 +20,9 @@ use Rattle.vs_gtid.specs.declared.Entry.{Entry}
 use Rattle.vs_gtid.specs.Positions.{Position, has, IsSubset, IsCanonical}
 use Rattle.vs_gtid.specs.Joins.{added}
 use Rattle.vs_gtid.specs.Logs.{Log}
-use Rattle.vs_entries.specs.Rules.{IsNoJournal}
 use Rattle.vs_gtid.proofs.JoinLemmas.{has-added}
-use Rattle.vs_model.specs.Logs.{Cluster, LogsAreDistinct, log_of, after, due, stop, own_of, journal_of, up_to_own, first_own, IsPositionAfter, is_gtid_of}
-use Rattle.vs_gtid.specs.Vectors.{Vector, Place, place_of, moved}
+use Rattle.vs_model.specs.Logs.{Cluster, LogsAreDistinct, log_of, due, journal_of, IsPositionAfter, is_gtid_of}
+use Rattle.vs_gtid.specs.Vectors.{Vector, Place, is_in, place_of, moved, stands}
 use Rattle.vs_gtid.specs.Vectors.Place.{Streaming}
 use Rattle.vs_model.specs.Frames.{Frame, last_vector}
 use Rattle.vs_model.specs.Frames.Frame.{AllCopied}
@@ -31,9 +30,7 @@ use Rattle.vs_model.specs.Copy.{Filter, picked}
 use Rattle.vs_model.specs.Legal.{AllCopiedFollows, NoParticipantStands}
 use Rattle.vs_model.specs.Steps.{SendsTx, Steps}
 use Rattle.vs_command.specs.Sending.{vector_at, position_after, entries_bytes, entry_bytes, entry_frames, next_frame, IsCanonicalAlong}
-use Rattle.vs_entries.specs.Laws.{AreNoJournals}
 use Rattle.vs_model.specs.Laws.{DueGoesOn, TransactionsAreSteps}
-use Rattle.vs_command.proofs.SizeLemmas.{kept}
 
 -- the position with a GTID is the one after its entry
 after_one : (p : Position) (e : Entry) → IsPositionAfter p (e ∷ []) (added p e.gtid)
@@ -52,17 +49,31 @@ picked_same tables schema g t Other = refl
 picked_same tables schema g t (Rows changes) = refl
 picked_same tables schema g t (Journal j) = refl
 
-not_foreign : (s : ShardName) (v : Vector) (w : Work) → IsNoJournal w → IfSome (journal_of w) (NoParticipantStands s v)
-not_foreign s v (Ddl text) h = tt
-not_foreign s v Other h = tt
-not_foreign s v (Rows changes) h = tt
-not_foreign s v (Journal j) h = absurd h
+-- no participant of a foreign journal stands in the vector of the one shard
+none_stands : (s : ShardName) (p : Position) (names : List ShardName) → is_in s names ≡ false → AllByRecursion (λ t. IsFalse (stands (vector_at s p) t)) names
+none_stands s p [] h = tt
+none_stands s p (n ∷ names) h = (first, none_stands s p names (or_second (same_name s n) (is_in s names) h))
+  where
+    or_first : (a b : Bool) → (a || b) ≡ false → a ≡ false
+    or_first true b h = absurd (cc)
+    or_first false b h = refl
 
-none_own : (s : ShardName) (w : Work) → IsNoJournal w → own_of s (journal_of w) ≡ None
-none_own s (Ddl text) h = refl
-none_own s Other h = refl
-none_own s (Rows changes) h = refl
-none_own s (Journal j) h = absurd h
+    or_second : (a b : Bool) → (a || b) ≡ false → b ≡ false
+    or_second true b h = absurd (cc)
+    or_second false b h = h
+
+    first : IsFalse (stands (vector_at s p) n)
+    first = ap (λ b. is_some (if b then Some (Streaming p) else None)) (or_first (same_name s n) (is_in s names) h)
+
+not_foreign : (s : ShardName) (p : Position) (w : Work) → IfSome (journal_of w) (NoParticipantStands s (vector_at s p))
+not_foreign s p (Ddl text) = tt
+not_foreign s p Other = tt
+not_foreign s p (Rows changes) = tt
+not_foreign s p (Journal j) = λ shards foreign. none_stands s p j.participants (and_second j.shards (is_in s j.participants) shards foreign)
+  where
+    and_second : (a b : Bool) → IsTrue a → IsFalse (a && b) → b ≡ false
+    and_second true b h k = k
+    and_second false b h k = absurd (cc)
 
 stands_at : (s : ShardName) (p : Position) → place_of (vector_at s p) s ≡ Some (Streaming p)
 stands_at s p = ap (λ b. if b then Some (Streaming p) else None) (same_name-refl s)
@@ -84,9 +95,9 @@ PicksFrom rules s tables = (schema : List Table) × (rules s ≡ bound_in tables
 told_is : (rules : Filter) (s : ShardName) (tables : List Picked) (e : Entry) → PicksFrom rules s tables → picked (bound_in tables []) e ≡ picked (rules s) e
 told_is rules s tables e (schema, is) = picked_same tables schema e.gtid e.time e.work ∙ ap (λ b. picked b e) (sym is)
 
-sends : (cluster : Cluster) (rules : Filter) (tables : List Picked) (s : ShardName) (p : Position) (e : Entry) (rest : List Entry) → PicksFrom rules s tables → IsNoJournal e.work → due s (log_of cluster s) p ≡ e ∷ rest →
+sends : (cluster : Cluster) (rules : Filter) (tables : List Picked) (s : ShardName) (p : Position) (e : Entry) (rest : List Entry) → PicksFrom rules s tables → due s (log_of cluster s) p ≡ e ∷ rest →
     IsSubset (log_of cluster s).base p → IsCanonical (added p e.gtid) → SendsTx cluster rules (vector_at s p) s (picked (bound_in tables []) e) (vector_at s (added p e.gtid))
-sends cluster rules tables s p e rest picks plain first base canonical = record {
+sends cluster rules tables s p e rest picks first base canonical = record {
   p = p;
   e = e;
   rest = rest;
@@ -98,17 +109,17 @@ sends cluster rules tables s p e rest picks plain first base canonical = record 
   grown = after_one p e;
   vector = moved_at s p (added p e.gtid);
   canonical = (canonical, tt);
-  foreign = not_foreign s (vector_at s p) e.work plain;
+  foreign = not_foreign s p e.work;
 }
 
 pub steps_sent : TransactionsAreSteps → DueGoesOn → (cluster : Cluster) (rules : Filter) (tables : List Picked) (s : ShardName) → PicksFrom rules s tables → LogsAreDistinct cluster → (p : Position) (sent rest : List Entry) →
-    AreNoJournals sent → due s (log_of cluster s) p ≡ sent ++ rest → (sent ≡ []) ⊎ IsSubset (log_of cluster s).base p → IsCanonicalAlong p sent →
+    due s (log_of cluster s) p ≡ sent ++ rest → (sent ≡ []) ⊎ IsSubset (log_of cluster s).base p → IsCanonicalAlong p sent →
     Steps cluster rules (vector_at s p) (entry_frames tables s p sent)
-steps_sent tx due_law cluster rules tables s picks distinct p [] rest plain are base canonical = tt
-steps_sent tx due_law cluster rules tables s picks distinct p (e ∷ es) rest plain are (◌⊎◌.inl none) canonical = absurd (cc)
-steps_sent tx due_law cluster rules tables s picks distinct p (e ∷ es) rest plain are (◌⊎◌.inr base) canonical = (
-  tx cluster rules (vector_at s p) (vector_at s (added p e.gtid)) s (picked (bound_in tables []) e) distinct (sends cluster rules tables s p e (es ++ rest) picks plain.0 are base canonical.0),
-  steps_sent tx due_law cluster rules tables s picks distinct (added p e.gtid) es rest plain.1
+steps_sent tx due_law cluster rules tables s picks distinct p [] rest are base canonical = tt
+steps_sent tx due_law cluster rules tables s picks distinct p (e ∷ es) rest are (◌⊎◌.inl none) canonical = absurd (cc)
+steps_sent tx due_law cluster rules tables s picks distinct p (e ∷ es) rest are (◌⊎◌.inr base) canonical = (
+  tx cluster rules (vector_at s p) (vector_at s (added p e.gtid)) s (picked (bound_in tables []) e) distinct (sends cluster rules tables s p e (es ++ rest) picks are base canonical.0),
+  steps_sent tx due_law cluster rules tables s picks distinct (added p e.gtid) es rest
       (due_law s (log_of cluster s) p (added p e.gtid) (e ∷ []) (es ++ rest) (distinct s) are (after_one p e))
       (◌⊎◌.inr (subset_added (log_of cluster s).base p e.gtid base)) canonical.1,
 )
@@ -135,23 +146,3 @@ copies_sent tables s p sent before behind h = absurd (none_copied tables s p sen
 pub last_sent : (tables : List Picked) (s : ShardName) (p : Position) (sent : List Entry) → last_vector (vector_at s p) (entry_frames tables s p sent) ≡ vector_at s (position_after p sent)
 last_sent tables s p [] = refl
 last_sent tables s p (e ∷ es) = last_sent tables s (added p e.gtid) es
-
--- no entry is an own journal
-up_to_all : (s : ShardName) (es : List Entry) → AreNoJournals es → up_to_own s es ≡ es
-up_to_all s [] h = refl
-up_to_all s (e ∷ es) h =
-    ap (λ o. if is_some o then [] else e ∷ up_to_own s es) (none_own s e.work h.0) ∙ ap (λ l. e ∷ l) (up_to_all s es h.1)
-
-none_first : (s : ShardName) (es : List Entry) → AreNoJournals es → first_own s es ≡ None
-none_first s [] h = refl
-none_first s (e ∷ es) h = ap (λ o. option_or o (first_own s es)) (none_own s e.work h.0) ∙ none_first s es h.1
-
-pub after_no_journals : (log : Log) (p : Position) → AreNoJournals log.entries → AreNoJournals (after log p)
-after_no_journals log p h = kept (λ e. IsNoJournal e.work) (λ e. not (has p e.gtid)) log.entries h
-
--- so all entries that the position lacks are due, and nothing stops it
-pub due_all : (s : ShardName) (log : Log) (p : Position) → AreNoJournals log.entries → due s log p ≡ after log p
-due_all s log p h = up_to_all s (after log p) (after_no_journals log p h)
-
-pub stop_none : (s : ShardName) (log : Log) (p : Position) → AreNoJournals log.entries → stop s log p ≡ None
-stop_none s log p h = none_first s (after log p) (after_no_journals log p h)

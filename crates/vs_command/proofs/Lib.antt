@@ -5,6 +5,7 @@ pub mod CauseLemmas
 pub mod LegalLemmas
 pub mod AnswerLemmas
 pub mod StreamLemmas
+pub mod StopLemmas
 pub mod FetchLemmas
 pub mod WordLemmas
 pub mod PartLemmas

@@ -21,7 +21,7 @@ use Rattle.vs_command.specs.declared.start.Start.TheVariants.{At, Current}
 use Rattle.vs_command.specs.declared.status.RequestFault.{RequestFault}
 use Rattle.vs_command.specs.declared.status.RequestFault.TheVariants as faults
 use Rattle.vs_command.specs.declared.status.Status.{Status}
-use Rattle.vs_command.specs.declared.status.Status.TheVariants.{Done, Memory, Usage, Request, UnknownShard, Purged, BadLog, FeedFault, LinkFault, InputFault, OpenFault, PositionTooLarge, BadSchema, BadFrame}
+use Rattle.vs_command.specs.declared.status.Status.TheVariants.{Done, Memory, Usage, Request, UnknownShard, Purged, BadLog, FeedFault, LinkFault, InputFault, OpenFault, PositionTooLarge, Stopped, BadSchema, BadFrame}
 use Rattle.vs_command.specs.Causes.{HoldsBase, IsDue, IsFrom, LogAsksFor, PositionAsksFor, ShardAsksFor}
 use Rattle.vs_command.specs.Laws.{Laws}
 use Rattle.vs_command.specs.Requests.{Asks, AsksBy, HasPatternIn, IsFaultOf}
@@ -43,6 +43,7 @@ log_stage : (stands : Gtid → ℕ → Type 0) (tables : List Picked) (s : Shard
 log_stage stands tables s log p status (LogAnswer.ends can fault end is) = at_stage 6 status (end_status s fault) is (omega (arith, end_stage s fault))
 log_stage stands tables s log p status (LogAnswer.purged missing first is) = at_stage 6 status (Purged s missing) is (omega arith)
 log_stage stands tables s log p status (LogAnswer.large base over is) = at_stage 6 status (PositionTooLarge s) is (omega arith)
+log_stage stands tables s log p status (LogAnswer.stopped can id at is) = at_stage 6 status (Stopped s id) is (omega arith)
 
 -- where the log's base lies in the start, its position has no GTID missing
 none_missing : (log : Log) (start : Start) (p : Position) (missing : Gtid) → HoldsBase log start → IsFrom log start p → IsFirstMissing log.base p missing → ⊥
@@ -57,6 +58,7 @@ begun_stage : (stands : Gtid → ℕ → Type 0) (tables : List Picked) (s : Sha
 begun_stage stands tables s log start p status base from (LogAnswer.ends can fault end is) = at_stage 7 status (end_status s fault) is (end_stage s fault)
 begun_stage stands tables s log start p status base from (LogAnswer.purged missing first is) = absurd (none_missing log start p missing base from first)
 begun_stage stands tables s log start p status base from (LogAnswer.large within over is) = at_stage 7 status (PositionTooLarge s) is (omega arith)
+begun_stage stands tables s log start p status base from (LogAnswer.stopped can id at is) = at_stage 7 status (Stopped s id) is (omega arith)
 
 -- ---- the stages of what a shard asks for
 
@@ -162,6 +164,7 @@ brought_stage laws cluster input (UnknownShard name) due brought is = absurd bro
 brought_stage laws cluster input (Purged name missing) due brought is = absurd brought
 brought_stage laws cluster input (BadLog name offset why) due brought is = absurd brought
 brought_stage laws cluster input (PositionTooLarge name) due brought is = absurd brought
+brought_stage laws cluster input (Stopped name id) due brought is = absurd brought
 brought_stage laws cluster input (BadSchema name line) due brought is = absurd brought
 
 -- ---- two answers that may come
@@ -198,6 +201,7 @@ stage_most LinkFault = omega arith
 stage_most InputFault = omega arith
 stage_most (OpenFault name) = omega arith
 stage_most (PositionTooLarge name) = omega arith
+stage_most (Stopped name id) = omega arith
 stage_most (BadSchema name line) = omega arith
 stage_most (BadFrame number frame_why) = omega arith
 

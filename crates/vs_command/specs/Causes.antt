@@ -1,11 +1,12 @@
 -- When each answer comes: what of the request and of the log of its shard asks for it.
-use Rattle.std.specs.Prelude.{◌≡◌, ◌⊎◌, ℕ, List, map, take, Option, Some, None, Ok, Err}
+use Rattle.std.specs.Prelude.{◌≡◌, ◌⊎◌, ℕ, ℤ, List, map, take, Option, Some, None, Ok, Err}
 use Rattle.vs_base.specs.declared.Gtid.{Gtid}
 use Rattle.vs_base.specs.declared.ShardName.{ShardName}
 use Rattle.vs_base.specs.declared.rule_text.RuleText.{RuleText}
 use Rattle.vs_base.specs.declared.Why.{Why}
 use Rattle.vs_base.specs.declared.Why.TheVariants.{TooLarge}
 use Rattle.vs_gtid.specs.declared.Entry.{Entry}
+use Rattle.vs_gtid.specs.declared.JournalValue.{JournalValue}
 use Rattle.vs_gtid.specs.Logs.{Log}
 use Rattle.vs_gtid.specs.Missing.{IsFirstMissing}
 use Rattle.vs_gtid.specs.Positions.{IsCanonical, IsSubset, Position}
@@ -20,18 +21,18 @@ use Rattle.vs_filter.specs.declared.filter.FilterRefusal.TheVariants as filters
 use Rattle.vs_filter.specs.Rules.{Meant, NoPattern, NoSelect, first_fault, first_unbound, meant_by, picked_by}
 use Rattle.vs_select.specs.declared.refusal.SelectRefusal.{SelectRefusal}
 use Rattle.vs_log.specs.Laws.{FitAlong}
-use Rattle.vs_model.specs.Logs.{IsPositionAfter, after}
+use Rattle.vs_model.specs.Logs.{IsPositionAfter, after, due, stop}
 use Rattle.vs_command.specs.declared.start.Start.{Start}
 use Rattle.vs_command.specs.declared.start.Start.TheVariants.{At, Current}
 use Rattle.vs_command.specs.declared.status.RequestFault.{RequestFault}
 use Rattle.vs_command.specs.declared.status.RequestFault.TheVariants.{BadPattern, PatternRefused, BadRule, Unbound}
 use Rattle.vs_command.specs.declared.status.Status.{Status}
-use Rattle.vs_command.specs.declared.status.Status.TheVariants.{Done, Memory, Usage, Request, UnknownShard, Purged, BadLog, FeedFault, LinkFault, InputFault, OpenFault, PositionTooLarge, BadSchema, BadFrame}
+use Rattle.vs_command.specs.declared.status.Status.TheVariants.{Done, Memory, Usage, Request, UnknownShard, Purged, BadLog, FeedFault, LinkFault, InputFault, OpenFault, PositionTooLarge, Stopped, BadSchema, BadFrame}
 use Rattle.vs_command.specs.Sizes.{IsOversizedAt, first_oversized, sendable_front}
 use Rattle.vs_filter.specs.declared.bound.Picked.{Picked}
 use Rattle.vs_command.specs.Requests.{Asks, HasTaken, IsFaultOf, IsFaultOfRules, IsRequestFrame, TakesOf}
 use Rattle.vs_command.specs.Sending.{IsTooLargeAlong}
-use Rattle.vs_command.specs.Streaming.{IsUnboundIn, shard_log, shard_places}
+use Rattle.vs_command.specs.Streaming.{IsStoppedBy, IsUnboundIn, shard_log, shard_places}
 
 -- the pattern of a rule was refused for another reason than its text
 abbrev pub IsRefusedPattern : RequestFault → Type 0
@@ -52,6 +53,7 @@ IsOutside (UnknownShard name) = ⊥
 IsOutside (Purged name missing) = ⊥
 IsOutside (BadLog name offset why) = ⊥
 IsOutside (PositionTooLarge name) = ⊥
+IsOutside (Stopped name id) = ⊥
 IsOutside (BadSchema name line) = ⊥
 
 -- The log's base lies in the start. The log's end holds it always.
@@ -64,25 +66,31 @@ abbrev pub IsFrom : Log → Start → Position → Type 0
 IsFrom log (At q) p = p ≡ q
 IsFrom log Current p = IsCanonical p × FitAlong p (after log p) × (m : ℕ) × IsPositionAfter log.base (take m log.entries) p
 
--- what ends a stream of a log: the first entry that can't be sent, at the place of its GTID event; where each can be sent, the log's own fault
-abbrev pub StreamEndsAt : (Gtid → ℕ → Type 0) → List Picked → ShardName → Option (ℕ × Why) → Option Entry → Option (ℕ × Why) → Type 0
-StreamEndsAt stands tables s own None fault = fault ≡ own
-StreamEndsAt stands tables s own (Some e) fault = (at bytes : ℕ) × IsOversizedAt stands tables s e at bytes × (fault ≡ Some (at, TooLarge bytes))
+-- what ends a stream of a log: the first entry that can't be sent, at the place of its GTID event; where each can be sent, and no journal of the shard's own stops it, the log's own fault
+abbrev pub StreamEndsAt : (Gtid → ℕ → Type 0) → List Picked → ShardName → Option JournalValue → Option (ℕ × Why) → Option Entry → Option (ℕ × Why) → Type 0
+StreamEndsAt stands tables s journal own (Some e) fault = (at bytes : ℕ) × IsOversizedAt stands tables s e at bytes × (fault ≡ Some (at, TooLarge bytes))
+StreamEndsAt stands tables s None own None fault = fault ≡ own
+StreamEndsAt stands tables s (Some j) own None fault = ⊥
 
 abbrev pub EndsWith : (Gtid → ℕ → Type 0) → List Picked → ShardName → Log → Position → Option (ℕ × Why) → Type 0
-EndsWith stands tables s log p fault = StreamEndsAt stands tables s log.fault (first_oversized tables s (after log p)) fault
+EndsWith stands tables s log p fault = StreamEndsAt stands tables s (stop s log p) log.fault (first_oversized tables s (due s log p)) fault
+
+-- each entry that is due can be sent, and behind them stands a journal of the shard's own, which has this number
+abbrev pub EndsAtJournal : List Picked → ShardName → Log → Position → ℤ → Type 0
+EndsAtJournal tables s log p id = (first_oversized tables s (due s log p) ≡ None) × IsStoppedBy s log p id
 
 -- all that is due from a position can be sent, up to the first entry that is too large: none of these makes a position that is too large
 pub record CanBeSent (tables : List Picked) (s : ShardName) (log : Log) (p : Position) : Type 0 where
   pub base : IsSubset log.base p
-  pub room : IsTooLargeAlong p (sendable_front tables s (after log p)) → ⊥
+  pub room : IsTooLargeAlong p (sendable_front tables s (due s log p)) → ⊥
 
 -- What a shard's log asks for, from a position, where these tables are picked. `stands` says where the GTID events of its entries stand.
 abbrev pub PositionAsksFor : (Gtid → ℕ → Type 0) → List Picked → ShardName → Log → Position → Status → Type 0
 PositionAsksFor stands tables s log p Done = CanBeSent tables s log p × EndsWith stands tables s log p None
 PositionAsksFor stands tables s log p (BadLog name offset why) = (name ≡ s) × CanBeSent tables s log p × EndsWith stands tables s log p (Some (offset, why))
 PositionAsksFor stands tables s log p (Purged name missing) = (name ≡ s) × IsFirstMissing log.base p missing
-PositionAsksFor stands tables s log p (PositionTooLarge name) = (name ≡ s) × IsSubset log.base p × IsTooLargeAlong p (sendable_front tables s (after log p))
+PositionAsksFor stands tables s log p (PositionTooLarge name) = (name ≡ s) × IsSubset log.base p × IsTooLargeAlong p (sendable_front tables s (due s log p))
+PositionAsksFor stands tables s log p (Stopped name id) = (name ≡ s) × CanBeSent tables s log p × EndsAtJournal tables s log p id
 PositionAsksFor stands tables s log p (UnknownShard name) = ⊥
 PositionAsksFor stands tables s log p Memory = ⊥
 PositionAsksFor stands tables s log p Usage = ⊥

@@ -1,7 +1,6 @@
 -- The laws of the crates below on which the headline and the causes of answers stand, as their functions ensure them.
 use Rattle.vs_rows.specs.Tables.{Tables}
 use Rattle.vs_log.specs.Laws.{AlwaysNewGtids, AlwaysOnePlace}
-use Rattle.vs_entries.specs.Laws.{NeverReadsJournals}
 use Rattle.vs_frame.specs.Laws.{HasOneFrame, HasOneLength, PartIsNoFrame, PartIsNotTooLong, TooLongIsNoFrame}
 use Rattle.vs_request.specs.Laws.{SaysOneThing}
 use Rattle.vs_render.specs.Laws.{BodiesMakeFrames}
@@ -13,7 +12,6 @@ pub record Laws : Type 0 where
   pub stop : StopStays
   pub steps : StepsAreLegal
   pub new_gtids : AlwaysNewGtids Tables
-  pub no_journals : NeverReadsJournals
   pub places : AlwaysOnePlace Tables
   pub requests : SaysOneThing
   pub part : PartIsNoFrame

@@ -11,3 +11,4 @@ pub mod Showing
 pub mod StatusTexts
 pub mod Lines
 pub mod Fetched
+pub mod Stops

@@ -4,7 +4,7 @@ use Rattle.vs_outside.specs.Told.{IsPrefixOf}
 use Rattle.vs_show.specs.declared.recording.ShowEnd.{ShowEnd}
 use Rattle.vs_show.specs.declared.recording.ShowEnd.TheVariants as ends
 use Rattle.vs_command.specs.declared.status.Status.{Status}
-use Rattle.vs_command.specs.declared.status.Status.TheVariants.{Done, Memory, Usage, Request, UnknownShard, Purged, BadLog, FeedFault, LinkFault, InputFault, OpenFault, PositionTooLarge, BadSchema, BadFrame}
+use Rattle.vs_command.specs.declared.status.Status.TheVariants.{Done, Memory, Usage, Request, UnknownShard, Purged, BadLog, FeedFault, LinkFault, InputFault, OpenFault, PositionTooLarge, Stopped, BadSchema, BadFrame}
 
 -- the end of the printing, as a status
 abbrev pub status_of : ShowEnd → Status
@@ -29,4 +29,5 @@ IsShown lines (BadLog name offset why) w = ⊥
 IsShown lines (FeedFault name) w = ⊥
 IsShown lines (OpenFault name) w = ⊥
 IsShown lines (PositionTooLarge name) w = ⊥
+IsShown lines (Stopped name id) w = ⊥
 IsShown lines (BadSchema name line) w = ⊥

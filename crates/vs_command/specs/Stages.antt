@@ -12,7 +12,7 @@ use Rattle.vs_command.specs.declared.start.Start.{Start}
 use Rattle.vs_command.specs.declared.status.RequestFault.{RequestFault}
 use Rattle.vs_command.specs.declared.status.RequestFault.TheVariants.{BadPattern, PatternRefused, BadRule, Unbound}
 use Rattle.vs_command.specs.declared.status.Status.{Status}
-use Rattle.vs_command.specs.declared.status.Status.TheVariants.{Done, Memory, Usage, Request, UnknownShard, Purged, BadLog, FeedFault, LinkFault, InputFault, OpenFault, PositionTooLarge, BadSchema, BadFrame}
+use Rattle.vs_command.specs.declared.status.Status.TheVariants.{Done, Memory, Usage, Request, UnknownShard, Purged, BadLog, FeedFault, LinkFault, InputFault, OpenFault, PositionTooLarge, Stopped, BadSchema, BadFrame}
 use Rattle.vs_command.specs.Causes.{HoldsBase}
 use Rattle.vs_command.specs.Requests.{Asks, HasPatternIn}
 use Rattle.vs_command.specs.Streaming.{shard_log}
@@ -42,6 +42,7 @@ IsBroughtOf log start (UnknownShard name) = ⊥
 IsBroughtOf log start (Purged name missing) = ⊥
 IsBroughtOf log start (BadLog name offset why) = ⊥
 IsBroughtOf log start (PositionTooLarge name) = ⊥
+IsBroughtOf log start (Stopped name id) = ⊥
 IsBroughtOf log start (BadSchema name line) = ⊥
 
 -- an answer from outside, where a shard was asked for from a start and by rules
@@ -59,6 +60,7 @@ IsBroughtOn shard s start rules (UnknownShard name) = ⊥
 IsBroughtOn shard s start rules (Purged name missing) = ⊥
 IsBroughtOn shard s start rules (BadLog name offset why) = ⊥
 IsBroughtOn shard s start rules (PositionTooLarge name) = ⊥
+IsBroughtOn shard s start rules (Stopped name id) = ⊥
 IsBroughtOn shard s start rules (BadSchema name line) = ⊥
 
 -- and where the rules were not built before
@@ -82,6 +84,7 @@ IsBrought cluster input (UnknownShard name) = ⊥
 IsBrought cluster input (Purged name missing) = ⊥
 IsBrought cluster input (BadLog name offset why) = ⊥
 IsBrought cluster input (PositionTooLarge name) = ⊥
+IsBrought cluster input (Stopped name id) = ⊥
 IsBrought cluster input (BadSchema name line) = ⊥
 
 -- the stage at which a request is refused: its rules are built behind it, and bound behind the schema text
@@ -108,3 +111,4 @@ stage LinkFault = 7
 stage Done = 7
 stage (BadLog name offset why) = 7
 stage (PositionTooLarge name) = 7
+stage (Stopped name id) = 7

@@ -1,9 +1,9 @@
 -- The number and the line of each end of a session.
 use Rattle.std.specs.Prelude.{ℕ, List, [], ◌++◌, codes, decimal}
+use Rattle.std.specs.Fmt.{signed_decimal}
 use Rattle.vs_base.specs.declared.ShardName.{ShardName}
 use Rattle.vs_base.specs.declared.Why.{Why}
-use Rattle.vs_base.specs.declared.Why.TheVariants.{BadMagic, NoFormat, BadVersion, Checksummed, BadLength, BadEvent, BadOrder, NestedBegin, Anonymous, BadGtid, RepeatedGtid, Unsupported, UnsupportedStatement, TooLarge, TooManyIntervals, UnknownTableId, UnknownTable, Disagrees, NotFullImage, BadRow, JournalNotAlone}
-use Rattle.vs_base.specs.declared.Why as why
+use Rattle.vs_base.specs.declared.Why.TheVariants.{BadMagic, NoFormat, BadVersion, Checksummed, BadLength, BadEvent, BadOrder, NestedBegin, Anonymous, BadGtid, RepeatedGtid, Unsupported, UnsupportedStatement, TooLarge, TooManyIntervals, UnknownTableId, UnknownTable, Disagrees, NotFullImage, BadRow, BadJournal, JournalNotAlone}
 use Rattle.vs_frame.specs.declared.refusal.FrameWhy.{FrameWhy}
 use Rattle.vs_frame.specs.declared.refusal.FrameWhy.TheVariants.{Cut, TooLong, Message}
 use Rattle.vs_gtid.specs.Joins.{added}
@@ -11,7 +11,7 @@ use Rattle.vs_gtid.specs.Text.{set_text}
 use Rattle.vs_command.specs.declared.status.RequestFault.{RequestFault}
 use Rattle.vs_command.specs.declared.status.RequestFault.TheVariants as fault
 use Rattle.vs_command.specs.declared.status.Status.{Status}
-use Rattle.vs_command.specs.declared.status.Status.TheVariants.{Done, Memory, Usage, Request, UnknownShard, Purged, BadLog, FeedFault, LinkFault, InputFault, OpenFault, PositionTooLarge, BadSchema, BadFrame}
+use Rattle.vs_command.specs.declared.status.Status.TheVariants.{Done, Memory, Usage, Request, UnknownShard, Purged, BadLog, FeedFault, LinkFault, InputFault, OpenFault, PositionTooLarge, Stopped, BadSchema, BadFrame}
 
 -- the number that tells the ends apart, as the program's exit status
 unfoldable pub status_number : Status → ℕ
@@ -27,6 +27,7 @@ status_number LinkFault = 10
 status_number InputFault = 11
 status_number (OpenFault name) = 12
 status_number (PositionTooLarge name) = 14
+status_number (Stopped name id) = 7
 status_number (BadSchema name line) = 16
 status_number (BadFrame number frame_why) = 17
 
@@ -56,8 +57,8 @@ why_text (UnknownTable table) = codes "unknown table " ++ table
 why_text (Disagrees table) = codes "table " ++ (table ++ codes " disagrees")
 why_text (NotFullImage table) = codes "table " ++ (table ++ codes " not full")
 why_text (BadRow table) = codes "bad row of " ++ table
+why_text (BadJournal at) = codes "bad journal at " ++ decimal at
 why_text JournalNotAlone = codes "journal not alone"
-why_text why.TheVariants.NotBuilt = codes "not built"
 
 -- what is wrong with a request: the fault's name, and its numbers
 abbrev pub fault_text : RequestFault → List ℕ
@@ -98,5 +99,6 @@ status_line LinkFault = codes "link fault"
 status_line InputFault = codes "input fault"
 status_line (OpenFault name) = codes "open fault " ++ name_text name
 status_line (PositionTooLarge name) = codes "position too large " ++ name_text name
+status_line (Stopped name id) = codes "stopped " ++ name_text name ++ codes " at journal " ++ signed_decimal id
 status_line (BadSchema name line) = codes "bad schema " ++ name_text name ++ codes " line " ++ decimal line
 status_line (BadFrame number frame_why) = codes "bad frame " ++ (decimal number ++ frame_why_text frame_why)

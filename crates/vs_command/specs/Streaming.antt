@@ -1,5 +1,5 @@
 -- What a stream of one shard writes, and what is known where it is done.
-use Rattle.std.specs.Prelude.{◌≡◌, ◌≢◌, ◌⊎◌, ℕ, List, [], ◌∷◌, ◌++◌, false, map, take, Option, Some, None, Result, Ok, Err}
+use Rattle.std.specs.Prelude.{◌≡◌, ◌≢◌, ◌⊎◌, ℕ, ℤ, List, [], ◌∷◌, ◌++◌, false, map, take, Option, Some, None, Result, Ok, Err}
 use Rattle.vs_base.specs.declared.Gtid.{Gtid}
 use Rattle.vs_base.specs.declared.ShardName.{ShardName}
 use Rattle.vs_base.specs.declared.rule_text.RuleText.{RuleText}
@@ -7,6 +7,7 @@ use Rattle.vs_base.specs.Picks.{Bound}
 use Rattle.vs_base.specs.declared.Why.{Why}
 use Rattle.vs_base.specs.declared.Why.TheVariants.{TooLarge}
 use Rattle.vs_gtid.specs.declared.Entry.{Entry}
+use Rattle.vs_gtid.specs.declared.JournalValue.{JournalValue}
 use Rattle.vs_gtid.specs.Logs.{Log}
 use Rattle.vs_gtid.specs.Missing.{IsFirstMissing}
 use Rattle.vs_gtid.specs.Positions.{Position, IsCanonical, IsSubset}
@@ -32,7 +33,7 @@ use Rattle.vs_rows.specs.Tables.{Tables}
 use Rattle.vs_log.specs.Table.{Rules}
 use Rattle.vs_entries.specs.Rules.{rules_of}
 use Rattle.vs_entries.specs.Reading.{no_schema}
-use Rattle.vs_model.specs.Logs.{Cluster, log_of, after, due, IsPositionAfter}
+use Rattle.vs_model.specs.Logs.{Cluster, log_of, due, stop, IsPositionAfter}
 use Rattle.vs_gtid.specs.Vectors.{Vector}
 use Rattle.vs_model.specs.Frames.{Frame, last_vector}
 use Rattle.vs_model.specs.Copy.{Filter}
@@ -42,7 +43,7 @@ use Rattle.vs_model.specs.Requests.{First, OneShard, StartAt, From, FromEnd}
 use Rattle.vs_command.specs.declared.status.RequestFault.{RequestFault}
 use Rattle.vs_command.specs.declared.status.RequestFault.TheVariants.{BadPattern, PatternRefused, BadRule, Unbound}
 use Rattle.vs_command.specs.declared.status.Status.{Status}
-use Rattle.vs_command.specs.declared.status.Status.TheVariants.{Done, Memory, Usage, Request, UnknownShard, Purged, BadLog, FeedFault, LinkFault, InputFault, OpenFault, PositionTooLarge, BadSchema, BadFrame}
+use Rattle.vs_command.specs.declared.status.Status.TheVariants.{Done, Memory, Usage, Request, UnknownShard, Purged, BadLog, FeedFault, LinkFault, InputFault, OpenFault, PositionTooLarge, Stopped, BadSchema, BadFrame}
 use Rattle.vs_command.specs.declared.start.Start.{Start}
 use Rattle.vs_command.specs.declared.start.Start.TheVariants.{At, Current}
 use Rattle.vs_command.specs.Sizes.{IsNextOversized}
@@ -92,7 +93,7 @@ picks_in rules shard = picked_tables rules (tables_in shard)
 abbrev pub filter_of : List RuleText → ClusterBytes → Filter
 filter_of rules cluster s = bound_in (picks_in rules (find_shard cluster s)) (tables_in (find_shard cluster s))
 
--- what the frames of such a request tell: no journals yet, and of each table the columns that leave
+-- what the frames of such a request tell: no switches at journals, and of each table the columns that leave
 abbrev pub telling_of : List RuleText → ClusterBytes → Telling
 telling_of rules cluster = record { journals = false; fields = λ s. columns_in (picks_in rules (find_shard cluster s)) }
 
@@ -101,10 +102,22 @@ abbrev pub start_at : Start → StartAt
 start_at (At set) = From set
 start_at Current = FromEnd
 
+-- From a position the shard stops at a journal of its own, which has this number.
+abbrev pub IsStoppedBy : ShardName → Log → Position → ℤ → Type 0
+IsStoppedBy s log p id = (j : JournalValue) × (stop s log p ≡ Some j) × (j.id ≡ id)
+
 -- The shard's base lies in its first position, and all that was due was sent; no journal stops it.
 pub record HasSentAll (cluster : Cluster) (s : ShardName) (p : Position) (v : Vector) : Type 0 where
   pub base : IsSubset (log_of cluster s).base p
   pub settled : IsSettled cluster v
+
+-- All that was due was sent, and the shard's own journal comes next, which has this number.
+pub record HasComeToJournal (cluster : Cluster) (s : ShardName) (p : Position) (v : Vector) (id : ℤ) : Type 0 where
+  pub base : IsSubset (log_of cluster s).base p
+  pub q : Position
+  pub is : v ≡ vector_at s q
+  pub none : due s (log_of cluster s) q ≡ []
+  pub stopped : IsStoppedBy s (log_of cluster s) q id
 
 -- The next entry that is due to the shard makes a position of over 1,024 intervals.
 pub record IsNextDueTooLarge (cluster : Cluster) (s : ShardName) (p : Position) (v : Vector) : Type 0 where
@@ -132,6 +145,7 @@ HasCause stands tables cluster s p frames Done = HasSentAll cluster s p (last_ve
 HasCause stands tables cluster s p frames (BadLog name offset why) = (name ≡ s) × HasBadLogCause stands tables cluster s p frames offset why
 HasCause stands tables cluster s p frames (Purged name missing) = (name ≡ s) × IsFirstMissing (log_of cluster s).base p missing × (frames ≡ [])
 HasCause stands tables cluster s p frames (PositionTooLarge name) = (name ≡ s) × IsNextDueTooLarge cluster s p (last_vector (vector_at s p) frames)
+HasCause stands tables cluster s p frames (Stopped name id) = (name ≡ s) × HasComeToJournal cluster s p (last_vector (vector_at s p) frames) id
 HasCause stands tables cluster s p frames LinkFault = IsSubset (log_of cluster s).base p
 HasCause stands tables cluster s p frames Memory = Unit {0}
 HasCause stands tables cluster s p frames Usage = ⊥
@@ -166,6 +180,7 @@ IsOfStream (FeedFault name) = Unit {0}
 IsOfStream LinkFault = Unit {0}
 IsOfStream (OpenFault name) = Unit {0}
 IsOfStream (PositionTooLarge name) = Unit {0}
+IsOfStream (Stopped name id) = Unit {0}
 IsOfStream (BadSchema name line) = Unit {0}
 
 -- the answers of a stream whose log was read
@@ -176,6 +191,7 @@ IsOfLog (Purged name missing) = Unit {0}
 IsOfLog (BadLog name offset why) = Unit {0}
 IsOfLog LinkFault = Unit {0}
 IsOfLog (PositionTooLarge name) = Unit {0}
+IsOfLog (Stopped name id) = Unit {0}
 IsOfLog Usage = ⊥
 IsOfLog (BadFrame number frame_why) = ⊥
 IsOfLog (Request fault) = ⊥
@@ -200,6 +216,7 @@ IsBeforeStream (FeedFault name) = ⊥
 IsBeforeStream LinkFault = ⊥
 IsBeforeStream (OpenFault name) = ⊥
 IsBeforeStream (PositionTooLarge name) = ⊥
+IsBeforeStream (Stopped name id) = ⊥
 IsBeforeStream (BadSchema name line) = ⊥
 
 -- the schema text of a shard is refused at this line
@@ -239,6 +256,7 @@ IsUnread cluster s rules (BadLog name offset why) = ⊥
 IsUnread cluster s rules LinkFault = ⊥
 IsUnread cluster s rules InputFault = ⊥
 IsUnread cluster s rules (PositionTooLarge name) = ⊥
+IsUnread cluster s rules (Stopped name id) = ⊥
 IsUnread cluster s rules Done = ⊥
 
 -- What was written for a shard, from a first vector of the request: the bytes of legal frames, or a beginning of them where the link failed.
@@ -269,15 +287,16 @@ IsStart log Current whole p = (m : ℕ) × IsPositionAfter log.base (take m log.
 -- what is wrong with a log, by what was sent of it
 abbrev pub HasFault : (Gtid → ℕ → Type 0) → List Picked → ShardName → Log → Position → List Entry → ℕ → Why → Type 0
 HasFault stands tables s log p rest offset why =
-    ((log.fault ≡ Some (offset, why)) × (rest ≡ []) × IsSubset log.base p)
+    ((log.fault ≡ Some (offset, why)) × (rest ≡ []) × IsSubset log.base p × (stop s log p ≡ None))
     ⊎ ((bytes : ℕ) × (why ≡ TooLarge bytes) × IsNextOversized stands tables s rest offset bytes × IsSubset log.base p)
 
 -- What an answer about the log of a shard says of it, and of the entries that were sent and those left; the other answers are none about a log.
 abbrev pub HasLogCause : (Gtid → ℕ → Type 0) → List Picked → ShardName → Log → Position → List Entry → List Entry → Status → Type 0
-HasLogCause stands tables s log p sent rest Done = (rest ≡ []) × IsSubset log.base p × (log.fault ≡ None)
+HasLogCause stands tables s log p sent rest Done = (rest ≡ []) × IsSubset log.base p × (stop s log p ≡ None) × (log.fault ≡ None)
 HasLogCause stands tables s log p sent rest (BadLog name offset why) = (name ≡ s) × HasFault stands tables s log p rest offset why
 HasLogCause stands tables s log p sent rest (Purged name missing) = (name ≡ s) × IsFirstMissing log.base p missing × (sent ≡ [])
 HasLogCause stands tables s log p sent rest (PositionTooLarge name) = (name ≡ s) × IsNextTooLarge (position_after p sent) rest × IsSubset log.base p
+HasLogCause stands tables s log p sent rest (Stopped name id) = (name ≡ s) × (rest ≡ []) × IsSubset log.base p × IsStoppedBy s log p id
 HasLogCause stands tables s log p sent rest LinkFault = IsSubset log.base p
 HasLogCause stands tables s log p sent rest Memory = Unit {0}
 HasLogCause stands tables s log p sent rest Usage = ⊥
@@ -289,11 +308,11 @@ HasLogCause stands tables s log p sent rest InputFault = ⊥
 HasLogCause stands tables s log p sent rest (OpenFault name) = ⊥
 HasLogCause stands tables s log p sent rest (BadSchema name line) = ⊥
 
--- What was written of a log, from a position: the frames of the first entries that the position lacks, and where the link failed a beginning of them.
+-- What was written of a log, from a position: the frames of the first entries that are due, and where the link failed a beginning of them.
 pub record IsStreamed (stands : Gtid → ℕ → Type 0) (tables : List Picked) (s : ShardName) (log : Log) (p : Position) (status : Status) (written : List ℕ) : Type 0 where
   pub sent : List Entry
   pub rest : List Entry
-  pub are : after log p ≡ sent ++ rest
+  pub are : due s log p ≡ sent ++ rest
   pub canonical : IsCanonicalAlong p sent
   pub prefix : IsPrefixOf written (entries_bytes tables s p sent)
   pub whole : status ≢ LinkFault → written ≡ entries_bytes tables s p sent

@@ -42,7 +42,6 @@ use crate::status::{RequestFault, Status};
 use crate::streaming::stream_log;
 use std::alloc::Global;
 use std::sync::Wait;
-use vs_entries::law_no_journals;
 use vs_filter::{Filter, FilterRefusal};
 use vs_frame::law_front;
 use vs_log::{law_distinct, law_places};
@@ -60,7 +59,6 @@ fn laws()
     law_frames();
     law_due();
     law_distinct::<Maps>();
-    law_no_journals();
     law_places::<Maps>();
     law_front();
     law_requests();

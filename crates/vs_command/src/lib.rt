@@ -3,6 +3,7 @@
 #![tactic(auto)]
 
 pub mod connection;
+mod due;
 mod fetch;
 mod fetched;
 mod line;

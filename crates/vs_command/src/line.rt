@@ -1,5 +1,6 @@
 //! The line that tells how a session ended, as parts that are written without taking memory.
 ghost use Rattle.std.specs.Prelude.{◌≡◌, ◌≤◌, ◌++◌, [], codes, decimal, OnErr};
+ghost use Rattle.std.specs.Fmt.{signed_decimal};
 ghost use Rattle.vs_gtid.specs.Joins.{added};
 ghost use Rattle.vs_gtid.specs.Text.{set_text};
 ghost use Rattle.vs_outside.specs.Counts.{Rose};
@@ -19,6 +20,7 @@ use vs_outside::{Failed, Sink, write_all};
 pub enum Part<'a> {
     Words(&'a [u8]),
     Number(u64),
+    Signed(i64),
     Server([u8; 16]),
 }
 
@@ -31,6 +33,10 @@ fn write_part<O: Sink>(output: &mut O, part: Part<'_>) -> Result<(), Failed>
     match part {
         Part::Words(words) => write_all(output, words),
         Part::Number(number) => {
+            let mut buffer = Buffer::new();
+            write_all(output, buffer.format(number).as_bytes())
+        }
+        Part::Signed(number) => {
             let mut buffer = Buffer::new();
             write_all(output, buffer.format(number).as_bytes())
         }
@@ -72,6 +78,7 @@ pub fn parts_of<'a>(status: &'a Status) -> [Part<'a>; 10]
         Status::InputFault => words(b"input fault"),
         Status::OpenFault { name } => of_shard(b"open fault ", name),
         Status::PositionTooLarge { name } => of_shard(b"position too large ", name),
+        Status::Stopped { name, id } => stopped(name, *id),
         Status::BadSchema { name, line } => bad_schema(name, *line),
         Status::BadFrame { number, why } => bad_frame(*number, *why),
     }
@@ -147,6 +154,24 @@ fn bad_log<'a>(name: &'a ShardName, offset: u64, why: &'a Why) -> [Part<'a>; 10]
         first,
         second,
         third,
+    ]
+}
+
+fn stopped<'a>(name: &'a ShardName, id: i64) -> [Part<'a>; 10]
+    ensures { text_of result ≡ codes "stopped " ++ name_text name.now ++ codes " at journal " ++ signed_decimal id }
+{
+    let no = Part::Words(b"");
+    [
+        Part::Words(b"stopped "),
+        Part::Words(name.keyspace.as_bytes()),
+        Part::Words(b"/"),
+        Part::Words(name.shard.as_bytes()),
+        Part::Words(b" at journal "),
+        Part::Signed(id),
+        no,
+        no,
+        no,
+        no,
     ]
 }
 
@@ -261,8 +286,8 @@ fn why_parts<'a>(why: &'a Why) -> [Part<'a>; 3]
         Why::Disagrees { table } => of_table(b"table ", table, b" disagrees"),
         Why::NotFullImage { table } => of_table(b"table ", table, b" not full"),
         Why::BadRow { table } => of_table(b"bad row of ", table, b""),
+        Why::BadJournal { at } => counted(b"bad journal at ", *at as u64, b""),
         Why::JournalNotAlone => alone(b"journal not alone"),
-        Why::NotBuilt => alone(b"not built"),
     }
 }
 

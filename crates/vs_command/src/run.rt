@@ -3,6 +3,7 @@ ghost use Rattle.std.specs.Prelude.{
   ◌≤◌,
   ◌⊎◌,
   ℕ,
+  ℤ,
   List as Items,
   IfSome,
   MatchOption,
@@ -106,6 +107,8 @@ pub fn run<R: Wait, I: Source, O: Sink, T: Tablets, C: Clock>(
     ensures bad_log_when { (folder : Items ℕ) (name : ShardName) (offset : ℕ) (why : Why) → AreStreamWords words.now folder → IfSome (T.cluster tablets.old) (λ c. IfSome (I.left input.old) (λ bytes. OwesLog c bytes (Status.BadLog name offset why) → IsOutside result ⊎ (result ≡ Status.BadLog name offset why))) }
     ensures too_large { (name : ShardName) → result ≡ Status.PositionTooLarge name → IfSome (T.cluster tablets.old) (λ c. IfSome (I.left input.old) (λ bytes. AnswersLog c bytes (Status.PositionTooLarge name))) }
     ensures too_large_when { (folder : Items ℕ) (name : ShardName) → AreStreamWords words.now folder → IfSome (T.cluster tablets.old) (λ c. IfSome (I.left input.old) (λ bytes. OwesLog c bytes (Status.PositionTooLarge name) → IsOutside result ⊎ (result ≡ Status.PositionTooLarge name))) }
+    ensures stopped { (name : ShardName) (id : ℤ) → result ≡ Status.Stopped name id → IfSome (T.cluster tablets.old) (λ c. IfSome (I.left input.old) (λ bytes. AnswersLog c bytes (Status.Stopped name id))) }
+    ensures stopped_when { (folder : Items ℕ) (name : ShardName) (id : ℤ) → AreStreamWords words.now folder → IfSome (T.cluster tablets.old) (λ c. IfSome (I.left input.old) (λ bytes. OwesLog c bytes (Status.Stopped name id) → IsOutside result ⊎ (result ≡ Status.Stopped name id))) }
     ensures done { result ≡ Status.Done → IfSome (T.cluster tablets.old) (λ c. IfSome (I.left input.old) (λ bytes. AnswersLog c bytes Status.Done)) }
     ensures done_when { (folder : Items ℕ) → AreStreamWords words.now folder → IfSome (T.cluster tablets.old) (λ c. IfSome (I.left input.old) (λ bytes. OwesLog c bytes Status.Done → IsOutside result ⊎ (result ≡ Status.Done))) }
 

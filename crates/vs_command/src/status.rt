@@ -86,6 +86,12 @@ pub enum Status {
     PositionTooLarge {
         name: ShardName,
     },
+    /// All that was due before a journal of the shard was sent. The journal ends the shard's stream, and
+    /// this release doesn't go on with its successors.
+    Stopped {
+        name: ShardName,
+        id: i64,
+    },
     /// The schema text of the shard is refused at this line, from 1 on.
     BadSchema {
         name: ShardName,
@@ -112,6 +118,7 @@ impl Status {
             Status::UnknownShard { .. } => 4,
             Status::Purged { .. } => 5,
             Status::BadLog { .. } => 6,
+            Status::Stopped { .. } => 7,
             Status::FeedFault { .. } => 9,
             Status::LinkFault => 10,
             Status::InputFault => 11,

@@ -3,12 +3,15 @@ ghost use Rattle.vs_outside.specs.Counts.{Rose};
 ghost use Rattle.vs_outside.specs.Told.{Writes};
 ghost use Rattle.vs_log.specs.Laws.{FitAlong, HasNewGtids};
 ghost use Rattle.vs_command.specs.Causes.{LogAsksFor};
-ghost use Rattle.vs_command.specs.Fetched.{IsPlaced, entries_of, read_as};
+ghost use Rattle.std.specs.Option.{option_map};
+ghost use Rattle.vs_command.specs.Fetched.{IsPlaced, entries_of, fault_of, read_as};
 ghost use Rattle.vs_command.specs.Sending.{lacking, position_after};
 ghost use Rattle.vs_command.specs.Stages.{IsBroughtOf};
+ghost use Rattle.vs_command.specs.Stops.{end_of, refusal_of};
 ghost use Rattle.vs_command.specs.Streaming.{IsOfLog, IsStart, IsStreamedFrom};
 
-use crate::fetched::{Fetched, Placed};
+use crate::due::due_entries;
+use crate::fetched::{Fetched, LogFault, Placed};
 use crate::sending::{SendEnd, send_entries};
 use crate::start::Start;
 use crate::status::Status;
@@ -64,7 +67,46 @@ fn position_of(alloc: Global, start: Start, fetched: &Fetched) -> Result<GtidSet
     }
 }
 
-/// Streams a shard's log, which is there whole, from a start to its end or to its first fault.
+/// How a stream ends all of whose due entries were sent: at the journal that stops it, or at what is
+/// wrong with the log, or at the log's end.
+fn end_of(name: ShardName, stop: Option<i64>, fault: Option<LogFault>) -> Status
+    ensures status { result ≡ end_of name stop (option_map fault_of fault) }
+    ensures kind { IsOfLog result }
+    ensures no_link { result ≡ Status.LinkFault → ⊥ }
+{
+    if let Some(id) = stop {
+        return Status::Stopped { name, id };
+    }
+    match fault {
+        Some(fault) => Status::BadLog {
+            name,
+            offset: fault.offset,
+            why: fault.why,
+        },
+        None => Status::Done,
+    }
+}
+
+/// How a stream ends of which not all due entries were sent.
+fn refused(name: ShardName, end: SendEnd) -> Status
+    ensures status { result ≡ refusal_of name end }
+    ensures kind { IsOfLog result }
+    ensures link { result ≡ Status.LinkFault → end ≡ SendEnd.LinkFault }
+{
+    match end {
+        SendEnd::Memory => Status::Memory,
+        SendEnd::LinkFault => Status::LinkFault,
+        SendEnd::PositionTooLarge => Status::PositionTooLarge { name },
+        SendEnd::TooLarge { offset, bytes } => Status::BadLog {
+            name,
+            offset,
+            why: Why::TooLarge { bytes },
+        },
+    }
+}
+
+/// Streams a shard's log, which is there whole, from a start to its end, to its first fault, or to a
+/// journal of the shard's own, whichever comes first.
 pub fn stream_log<O: Sink>(
     alloc: Global,
     output: &mut O,
@@ -87,26 +129,12 @@ pub fn stream_log<O: Sink>(
     if let Some(missing) = fetched.base.first_missing(&start) {
         return Status::Purged { name, missing };
     }
-    match send_entries(alloc, output, &name, entries, bound, &start) {
+    let due = due_entries(entries, &name, &start);
+    match send_entries(alloc, output, &name, due.entries, bound, &start) {
         Ok(()) => {}
-        Err(SendEnd::Memory) => return Status::Memory,
-        Err(SendEnd::LinkFault) => return Status::LinkFault,
-        Err(SendEnd::PositionTooLarge) => return Status::PositionTooLarge { name },
-        Err(SendEnd::TooLarge { offset, bytes }) => {
-            return Status::BadLog {
-                name,
-                offset,
-                why: Why::TooLarge { bytes },
-            };
-        }
+        Err(end) => return refused(name, end),
     }
+    let stop = due.stop;
     let Fetched { fault, .. } = fetched;
-    match fault {
-        Some(fault) => Status::BadLog {
-            name,
-            offset: fault.offset,
-            why: fault.why,
-        },
-        None => Status::Done,
-    }
+    end_of(name, stop, fault)
 }

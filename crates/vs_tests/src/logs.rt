@@ -92,6 +92,30 @@ const UPDATE: &[u8] =
 /// The event that ends a transaction.
 const XID: &[u8] = b"d\0\0\0\x10\x01\0\0\0\x1b\0\0\0\0\0\0\0\0\0\0\0\0\0\0\0\0\0";
 
+/// The table map of the number 9, of the table of journals.
+const JOURNAL_MAP: &[u8] =
+    b"d\0\0\0\x13\x01\0\0\0=\0\0\0\0\0\0\0\0\0\x09\0\0\0\0\0\x01\0\x03_vt\0\x12resharding_jo\
+    urnal\0\x03\x08\x0f\xfc\x03\xff\0\x02\x04";
+
+/// Rows that insert journal 7 of the keyspace c: the shard 0 is replaced.
+const OWN_JOURNAL: &[u8] =
+    b"d\0\0\0\x1e\x01\0\0\0\xcc\0\0\0\0\0\0\0\0\0\x09\0\0\0\0\0\x01\0\x02\0\x03\x07\0\x07\0\
+    \0\0\0\0\0\0\x04vt_c\x9d\0id:7 migration_type:SHARDS shard_gtids:{keyspace:\"c\" shard\
+    :\"-80\" gtid:\"MySQL56/00000000-0000-0000-0000-00000000000b:1\"} participants:{keyspa\
+    ce:\"c\" shard:\"0\"}";
+
+/// The same of the shard 1.
+const FOREIGN_JOURNAL: &[u8] =
+    b"d\0\0\0\x1e\x01\0\0\0\xcc\0\0\0\0\0\0\0\0\0\x09\0\0\0\0\0\x01\0\x02\0\x03\x07\0\x07\0\
+    \0\0\0\0\0\0\x04vt_c\x9d\0id:7 migration_type:SHARDS shard_gtids:{keyspace:\"c\" shard\
+    :\"-80\" gtid:\"MySQL56/00000000-0000-0000-0000-00000000000b:1\"} participants:{keyspa\
+    ce:\"c\" shard:\"1\"}";
+
+/// Rows that insert a journal whose text ends too early.
+const CUT_JOURNAL: &[u8] =
+    b"d\0\0\0\x1e\x01\0\0\x002\0\0\0\0\0\0\0\0\0\x09\0\0\0\0\0\x01\0\x02\0\x03\x07\0\x07\0\0\
+    \0\0\0\0\0\x04vt_c\x03\0id:";
+
 /// A log without entries.
 pub const WITHOUT_ENTRIES: &[&[u8]] = &[FORMAT, EMPTY_BASE];
 
@@ -174,6 +198,56 @@ pub const UNMAPPED_ROWS: &[&[u8]] = &[
     BEGIN,
     TABLE_MAP,
     ROWS_OF_EIGHT,
+    XID,
+];
+
+/// The first statement, the shard's own journal, and the second statement.
+pub const OWN: &[&[u8]] = &[
+    FORMAT,
+    EMPTY_BASE,
+    FIRST_GTID,
+    DROP_T,
+    FAR_GTID,
+    BEGIN,
+    JOURNAL_MAP,
+    OWN_JOURNAL,
+    XID,
+    SECOND_GTID,
+    DROP_S,
+];
+
+/// A journal of another shard.
+pub const FOREIGN: &[&[u8]] = &[
+    FORMAT,
+    EMPTY_BASE,
+    FIRST_GTID,
+    BEGIN,
+    JOURNAL_MAP,
+    FOREIGN_JOURNAL,
+    XID,
+];
+
+/// A journal that can't be read.
+pub const UNREAD: &[&[u8]] = &[
+    FORMAT,
+    EMPTY_BASE,
+    FIRST_GTID,
+    BEGIN,
+    JOURNAL_MAP,
+    CUT_JOURNAL,
+    XID,
+];
+
+/// A journal beside a row.
+pub const NOT_ALONE: &[&[u8]] = &[
+    FORMAT,
+    EMPTY_BASE,
+    FIRST_GTID,
+    BEGIN,
+    TABLE_MAP,
+    INSERT,
+    JOURNAL_MAP,
+    FOREIGN_JOURNAL,
     XID,
 ];
 

@@ -3,8 +3,8 @@
 use crate::case::{CASE, Case, check};
 use crate::logs::{
     BAD_LENGTH, BEFORE_LARGE, BESIDE_OTHERS, CHECKSUMMED, EMPTY_TRANSACTION, FAR, FIRST_ALONE,
-    FIRST_FRAME, FRAMES, NO_ROWS, PURGED, PURGED_UNFLAGGED, SECOND_FRAME, TABLE, TWO_ROWS,
-    UNMAPPED_ROWS, WITHOUT_ENTRIES,
+    FIRST_FRAME, FOREIGN, FRAMES, NO_ROWS, NOT_ALONE, OWN, PURGED, PURGED_UNFLAGGED, SECOND_FRAME,
+    TABLE, TWO_ROWS, UNMAPPED_ROWS, UNREAD, WITHOUT_ENTRIES,
 };
 use crate::requests::{
     BEHIND_FIRST, BEHIND_FOUR, BEHIND_OTHERS, BEHIND_TEN, FROM_THE_END, UNBOUND, UNKNOWN,
@@ -262,6 +262,49 @@ static CHANGES: [Case<'static>; 6] = [
 #[test]
 fn rows_are_read_under_the_schema_text(rt: HostRuntime) -> Result<(), AllocError> {
     check(&rt, rt.alloc(), &CHANGES)
+}
+
+static JOURNALS: [Case<'static>; 5] = [
+    Case {
+        what: "before the shard's own journal, which isn't sent",
+        log: OWN,
+        number: 7,
+        line: "stopped c/0 at journal 7",
+        written: FIRST_FRAME,
+        ..CASE
+    },
+    Case {
+        what: "such a journal that is behind the start",
+        input: FROM_THE_END,
+        log: OWN,
+        ..CASE
+    },
+    Case {
+        what: "a journal of another shard, as an empty transaction",
+        log: FOREIGN,
+        written: EMPTY_TRANSACTION,
+        ..CASE
+    },
+    Case {
+        what: "a journal whose text ends too early",
+        log: UNREAD,
+        number: 6,
+        line: "bad log c/0 at 259: bad journal at 3",
+        ..CASE
+    },
+    Case {
+        what: "a journal beside a row",
+        log: NOT_ALONE,
+        schema: TABLE,
+        number: 6,
+        line: "bad log c/0 at 340: journal not alone",
+        ..CASE
+    },
+];
+
+#[test]
+fn a_shard_stops_at_its_own_journal(rt: HostRuntime) -> Result<(), AllocError> {
+    check(&rt, rt.alloc(), &JOURNALS)
 }
 
 /// A statement of over 8,388,608 bytes behind a small one.

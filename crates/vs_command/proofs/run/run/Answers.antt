@@ -3,7 +3,7 @@ use Rattle.std.specs.Prelude.{◌⊎◌, IfSome}
 use Rattle.vs_command.specs.Causes.{IsDue, IsOutside, IsOwed, IsUnbound}
 use Rattle.vs_command.specs.Stages.{IsBrought, stage}
 use Rattle.vs_command.specs.declared.status.RequestFault.TheVariants.{Unbound}
-use Rattle.vs_command.specs.declared.status.Status.TheVariants.{BadSchema, Done, Request, UnknownShard, Purged, BadLog, PositionTooLarge}
+use Rattle.vs_command.specs.declared.status.Status.TheVariants.{BadSchema, Done, Request, UnknownShard, Purged, BadLog, PositionTooLarge, Stopped}
 use Rattle.vs_command.proofs.AnswerLemmas.{headline_told}
 use Rattle.vs_command.proofs.AskedLemmas.{binding_comes, unbound_came}
 use Rattle.vs_command.proofs.OutsideLemmas.{keeps_pointed, unasked_then}
@@ -39,6 +39,11 @@ pub returns-clause-too_large_when : goal.returns-clause-too_large_when
 returns-clause-too_large_when g c folder name words =
     subst (λ t. IfSome t (λ k. IfSome (g.I.Source.left c.args.input.now) (λ input. IsOwed k input (PositionTooLarge name) → IsOutside c.connection.result ⊎ (c.connection.result ≡ (PositionTooLarge name)))))
     c.point.ensures.cluster (c.connection.ensures.only (PositionTooLarge name))
+
+pub returns-clause-stopped_when : goal.returns-clause-stopped_when
+returns-clause-stopped_when g c folder name id words =
+    subst (λ t. IfSome t (λ k. IfSome (g.I.Source.left c.args.input.now) (λ input. IsOwed k input (Stopped name id) → IsOutside c.connection.result ⊎ (c.connection.result ≡ (Stopped name id)))))
+    c.point.ensures.cluster (c.connection.ensures.only (Stopped name id))
 
 pub returns-clause-done_when : goal.returns-clause-done_when
 returns-clause-done_when g c folder words =
