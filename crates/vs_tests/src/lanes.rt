@@ -1,8 +1,8 @@
 //! A lane reads a shard's log from its feed.
 
 use crate::logs::{
-    BAD_LENGTH, CUT_ROWS, EMPTY_TRANSACTION, FAR, FIRST_ALONE, FIRST_FRAME, LOG, ONE_ROW, PURGED,
-    SECOND_FRAME, TABLE, UPDATED, WITHOUT_ENTRIES,
+    BAD_LENGTH, CUT_ROWS, EMPTY_TRANSACTION, FAR, FIRST_ALONE, FIRST_FRAME, FOREIGN, LOG, ONE_ROW,
+    OWN, PURGED, SECOND_FRAME, TABLE, UNREAD, UPDATED, WITHOUT_ENTRIES,
 };
 use std::alloc::{AllocError, Global};
 use std::process::Abort;
@@ -21,6 +21,10 @@ use vs_schema::Schema;
 #[derive(Debug, Clone, Copy, PartialEq, Eq)]
 enum Told {
     Tx(u64, u32),
+    /// a journal of other shards
+    Foreign(u64, u32, i64),
+    /// the shard's own journal
+    Own(i64),
     AtEnd,
     FeedFault,
     BadLog(u64),
@@ -163,6 +167,27 @@ static PICKED: [Case<'static>; 3] = [
     },
 ];
 
+static JOURNALS: [Case<'static>; 3] = [
+    Case {
+        what: "the shard's own journal, behind which nothing is given",
+        log: OWN,
+        told: &[Told::Tx(1, 100), Told::Own(7)],
+        ..CASE
+    },
+    Case {
+        what: "a journal of another shard",
+        log: FOREIGN,
+        told: &[Told::Foreign(1, 100, 7), Told::AtEnd],
+        ..CASE
+    },
+    Case {
+        what: "a journal whose text ends too early",
+        log: UNREAD,
+        told: &[Told::BadLog(259)],
+        ..CASE
+    },
+];
+
 fn name_of(alloc: Global) -> Result<ShardName, AllocError> {
     let keyspace = Text::from_bytes(alloc, b"c")?;
     ShardName::new(keyspace, Text::from_bytes(alloc, b"0")?).ok_or(AllocError)
@@ -234,10 +259,20 @@ fn found(alloc: Global, lane: &mut Lane<MemFeed>) -> Result<(), AllocError> {
 fn told_of(piece: Piece) -> (Option<Told>, Option<Room>) {
     match piece {
         Piece::Tx { gtid, time, body } => (Some(Told::Tx(gtid.number, time)), Some(body.room())),
+        Piece::Foreign {
+            gtid,
+            time,
+            journal,
+            body,
+        } => {
+            let told = Told::Foreign(gtid.number, time, journal.id);
+            (Some(told), Some(body.room()))
+        }
         Piece::Idle { room } => (None, Some(room)),
         Piece::End { cause, room } => {
             let told = match cause {
                 EndCause::AtEnd => Told::AtEnd,
+                EndCause::OwnJournal { journal } => Told::Own(journal.id),
                 EndCause::FeedFault => Told::FeedFault,
                 EndCause::BadLog { offset, .. } => Told::BadLog(offset),
                 EndCause::Purged { missing } => Told::Purged(missing.number),
@@ -298,6 +333,14 @@ fn a_lane_reads_as_its_feed_gives(rt: HostRuntime) -> Result<(), AllocError> {
 #[test]
 fn a_lane_picks_by_its_filter(rt: HostRuntime) -> Result<(), AllocError> {
     for case in PICKED {
+        check(&rt, rt.alloc(), &case)?;
+    }
+    Ok(())
+}
+
+#[test]
+fn a_lane_ends_at_its_own_journal(rt: HostRuntime) -> Result<(), AllocError> {
+    for case in JOURNALS {
         check(&rt, rt.alloc(), &case)?;
     }
     Ok(())
