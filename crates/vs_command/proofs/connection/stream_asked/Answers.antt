@@ -1,5 +1,6 @@
-use Rattle.std.proofs.Common.{◌≡◌, None, ap, subst, sym, ◌∙◌}
+use Rattle.std.proofs.Common.{◌≡◌, ℕ, List, None, ap, subst, sym, ◌∙◌}
 use Rattle.vs_filter.specs.Rules.{first_fault}
+use Rattle.vs_outside.proofs.ToldLemmas.{Writes-none}
 use Rattle.vs_command.specs.Streaming.{IsBeforeStream}
 use Rattle.vs_command.proofs.AnswerLemmas.{filtered_refused, filtered_told}
 use Rattle.vs_command.proofs.AskedLemmas.{binding_rules, refusal_before, refusal_feed, refusal_link, refusal_open, refused_due, refused_kind, refused_rules, refused_said, taken_due}
@@ -46,3 +47,6 @@ pub returns-in-Err-clause-said : goal.returns-in-Err-clause-said
 returns-in-Err-clause-said g c =
     refused_said c.as_slice.result.now c.args.asked.rules (g.T.Tablets.pattern_faults c.args.tablets.now) (g.T.Tablets.pattern_faults c.build.new.tablets) c.in-Err.refusal c.refused.result
     c.as_slice.ensures c.refused.ensures c.in-Err.ensures.refused
+
+pub returns-in-Err-clause-sent : goal.returns-in-Err-clause-sent
+returns-in-Err-clause-sent g c = Writes-none (λ (written : List ℕ). Unit {0}) (g.O.Sink.sent c.args.output.now) tt
