@@ -19,7 +19,7 @@ Ascends cmp key (x ∷ xs) = AllByRecursion (λ y. cmp (key x) (key y) ≡ Less)
 abbrev pub HasSome : {X : Type 0} → List X → Type 0
 HasSome {X} xs = (x : X) × (rest : List X) × (xs ≡ x ∷ rest)
 
-all_imply : {X : Type 0} (P Q : X → Type 0) → ((x : X) → P x → Q x) → (xs : List X) → AllByRecursion P xs → AllByRecursion Q xs
+pub all_imply : {X : Type 0} (P Q : X → Type 0) → ((x : X) → P x → Q x) → (xs : List X) → AllByRecursion P xs → AllByRecursion Q xs
 all_imply P Q f [] h = tt
 all_imply P Q f (x ∷ xs) h = (f x h.0, all_imply P Q f xs h.1)
 

@@ -13,6 +13,10 @@ pub mod EscapeLaws
 pub mod TokenLaws
 pub mod CutTexts
 pub mod GatherLaws
+pub mod OrderLaws
+pub mod NameLaws
 pub mod SpellTexts
 pub mod WrittenLaws
 pub mod FrontLaws
+pub mod ReadingLaws
+pub mod ValueLaws

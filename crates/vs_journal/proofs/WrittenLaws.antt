@@ -4,9 +4,7 @@ use Rattle.std.specs.Prelude.{codes, nat_le, nat_lt, option_map, ℤ, pos, negsu
 use Rattle.std.specs.List.{AllByRecursion, flat_map}
 use Rattle.std.specs.Option.{option_and_then}
 use Rattle.std.specs.Result.{result_ok}
-use Rattle.std.specs.Cmp.{IsTotalOrder}
 use Rattle.std.proofs.lemmas.Bool.{and_from, and_parts, le-leb, leb-true, lt-ltb, ltb-true}
-use Rattle.std.proofs.lemmas.Cmp.{nat_list_cmp_total, on_total, then_total}
 use Rattle.vs_base.specs.Numbers.{signed}
 use Rattle.vs_gtid.specs.Positions.{IsCanonical, Position}
 use Rattle.vs_gtid.specs.Readings.{ReadsSet, read}
@@ -32,31 +30,29 @@ use Rattle.vs_journal.specs.declared.token.Token.{Token}
 use Rattle.vs_journal.specs.declared.token.Token.TheVariants as token
 use Rattle.vs_journal.proofs.GatherLaws.{Ascends, HasSome, entries_gathered, entries_in_order, keys_gathered, keys_in_order}
 use Rattle.vs_journal.proofs.JudgeLemmas.{position_is}
+use Rattle.vs_journal.proofs.NameLaws.{names_total}
 use Rattle.vs_journal.proofs.SpellTexts.{IsId, id_token, journal_spelled, journal_tokens, name_tokens, participant_tokens, successor_tokens}
 use Rattle.vs_journal.proofs.TextLaws.{journals_are_productions}
 
-names_total : IsTotalOrder plain_cmp
-names_total = then_total (on_total (λ (n : PlainName). n.0) nat_list_cmp_total) (on_total (λ (n : PlainName). n.1) nat_list_cmp_total)
-
 -- ---- what a journal that a text says keeps
 
-abbrev IsLawful : PlainName → Type 0
+abbrev pub IsLawful : PlainName → Type 0
 IsLawful n = (is_keyspace_text n.0 && is_shard_text n.1) ≡ true
 
-abbrev IsPrinted : Position → Type 0
+abbrev pub IsPrinted : Position → Type 0
 IsPrinted p = IsCanonical p × (length p ≤ 1024)
 
-record KeepsNames (j : PlainJournal) : Type 0 where
-  ascending : Ascends plain_cmp (λ (n : PlainName). n) j.participants
-  lawful : AllByRecursion IsLawful j.participants
-  some : HasSome j.participants
-  few : length j.participants ≤ 64
-  ascending_successors : Ascends plain_cmp (λ (s : PlainName × Position). s.0) j.successors
-  lawful_successors : AllByRecursion (λ s. IsLawful s.0 × IsPrinted s.1) j.successors
-  some_successors : HasSome j.successors
-  few_successors : length j.successors ≤ 64
+pub record KeepsNames (j : PlainJournal) : Type 0 where
+  pub ascending : Ascends plain_cmp (λ (n : PlainName). n) j.participants
+  pub lawful : AllByRecursion IsLawful j.participants
+  pub some : HasSome j.participants
+  pub few : length j.participants ≤ 64
+  pub ascending_successors : Ascends plain_cmp (λ (s : PlainName × Position). s.0) j.successors
+  pub lawful_successors : AllByRecursion (λ s. IsLawful s.0 × IsPrinted s.1) j.successors
+  pub some_successors : HasSome j.successors
+  pub few_successors : length j.successors ≤ 64
 
-abbrev KeepsAll : Bool → PlainJournal → Type 0
+abbrev pub KeepsAll : Bool → PlainJournal → Type 0
 KeepsAll true j = KeepsNames j
 KeepsAll false j = (j.participants ≡ []) × (j.successors ≡ [])
 
@@ -180,11 +176,11 @@ judged_kept size p j h = go p.shards h
         let same : ◌≡◌ {A = PlainJournal} (record { id = p.id; shards = false; participants = []; successors = [] }) j = cc in
         subst (IsOrdered p.id) same (refl, (refl, refl))
 
-record IsReadable (j : PlainJournal) : Type 0 where
-  id : IsId j.id
-  names : KeepsAll j.shards j
+pub record IsReadable (j : PlainJournal) : Type 0 where
+  pub id : IsId j.id
+  pub names : KeepsAll j.shards j
 
-readable : (text : List ℕ) (j : PlainJournal) (r : Result ParsedJournal ℕ) → parsed_journal text ≡ r → in_form (length text) r ≡ Ok j → IsReadable j
+pub readable : (text : List ℕ) (j : PlainJournal) (r : Result ParsedJournal ℕ) → parsed_journal text ≡ r → in_form (length text) r ≡ Ok j → IsReadable j
 readable text j (Err at) e h = absurd (cc)
 readable text j (Ok p) e h =
     let kept = judged_kept (length text) p j h in

@@ -7,5 +7,6 @@ pub mod NameOrder
 pub mod Refusals
 pub mod Texts
 pub mod Productions
+pub mod Names
 pub mod Spellings
 pub mod Written

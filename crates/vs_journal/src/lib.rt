@@ -18,7 +18,9 @@ mod tests;
 mod token;
 mod write;
 
-pub use laws::{law_few_names, law_journal_texts, law_names, law_written};
+pub use laws::{
+    law_few_names, law_journal_texts, law_judgements, law_names, law_values, law_written,
+};
 pub use read::read_text;
 pub use refusal::JournalRefusal;
 pub use vs_gtid::{Entry, JournalValue, Successor, Work};

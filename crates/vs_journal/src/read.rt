@@ -2,6 +2,7 @@
 ghost use Rattle.std.specs.Prelude.{◌≡◌, IfErr, IfOk, MatchResult, Ok, length};
 ghost use Rattle.vs_journal.specs.Grammar.{parsed_journal};
 ghost use Rattle.vs_journal.specs.Judgement.{journal_said, plain_journal};
+ghost use Rattle.vs_journal.specs.Names.{IsReading};
 ghost use Rattle.vs_journal.specs.Refusals.{IsRefusal, IsUnparsed};
 
 use crate::JournalRefusal;
@@ -39,6 +40,7 @@ fn parsed_journal(alloc: Global, text: &[u8]) -> Result<ParsedJournal, JournalRe
 pub fn read_text(alloc: Global, text: &[u8]) -> Result<JournalValue, JournalRefusal>
     ensures ok { IfOk result (λ j. journal_said text.now ≡ Ok (plain_journal j)) }
     ensures refused { IfErr result (λ e. IsRefusal (journal_said text.now) e) }
+    ensures reads { IsReading text.now result }
 {
     let journal = parsed_journal(alloc, text)?;
     judged_journal(alloc, text.len(), &journal)

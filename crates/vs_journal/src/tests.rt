@@ -1,6 +1,6 @@
 use crate::{
-    Entry, JournalRefusal, JournalValue, Work, law_few_names, law_journal_texts, law_names,
-    law_written, read_text, write_text,
+    Entry, JournalRefusal, JournalValue, Work, law_few_names, law_journal_texts, law_judgements,
+    law_names, law_values, law_written, read_text, write_text,
 };
 use std::alloc::Global;
 use std::process::Abort;
@@ -280,4 +280,6 @@ fn laws_can_be_called() {
     law_few_names();
     law_journal_texts();
     law_written();
+    law_values();
+    law_judgements();
 }

@@ -2,3 +2,4 @@ pub mod EventLaws
 pub mod LogLaws
 pub mod ListLemmas
 pub mod RowLaws
+pub mod JournalLaws

@@ -11,9 +11,12 @@ use Rattle.vs_binlog.specs.Words.{first_word}
 use Rattle.vs_entries.specs.Queries.{said}
 use Rattle.vs_entries.specs.Rules.{counted_by, or_why, rules_of}
 use Rattle.vs_gtid.specs.declared.Entry.{Entry}
+use Rattle.vs_gtid.specs.declared.Work.{Work}
 use Rattle.vs_gtid.specs.declared.Work.TheVariants.{Rows}
+use Rattle.vs_gtid.specs.Positions.{Position}
 use Rattle.vs_log.specs.Events.{joined, limit, sort, sort_of}
-use Rattle.vs_log.specs.Productions.{IsEntry, IsTransaction, IsUnended, IsWholeLog, counts, is_counted}
+use Rattle.vs_log.specs.Productions.{IsEntry, IsTransaction, IsUnended, IsWholeLog, IsWork, counts, is_counted}
+use Rattle.vs_log.specs.States.{Counted}
 use Rattle.vs_log.specs.States.Counted.{Changed}
 use Rattle.vs_log.specs.Table.{gtid_in}
 use Rattle.vs_log.specs.declared.event.Sort.TheVariants.{GtidEvent, MapEvent, QueryEvent, RowsEvent, XidEvent}
@@ -29,7 +32,7 @@ use Rattle.vs_schema.specs.declared.schema.Schema.{Schema}
 use Rattle.vs_make.specs.Events.{gtid_event, gtid_layout, query_event, query_layout}
 use Rattle.vs_make.specs.Journals.{none}
 use Rattle.vs_make.specs.Rows.{ListsTable, WritesTransactions, begin_text, map_event, only, rows_event, transaction_bytes, xid_event}
-use Rattle.vs_make.specs.Written.{HasRoom}
+use Rattle.vs_make.specs.Written.{HasRoom, IsLogOf}
 use Rattle.vs_make.proofs.EventLaws.{HasHead, event_head, event_length, gtid_said, is_event, sort_is}
 use Rattle.vs_make.proofs.LogLaws.{IsGood, gtid_length, one_more, query_length, statement_known}
 
@@ -152,20 +155,21 @@ joined_five a b c d e =
     ap (λ z. a ++ (b ++ (c ++ (d ++ z)))) (append-nil e)
     ∙ sym (append_assoc (a ++ b ++ c) d e ∙ (append_assoc (a ++ b) c (d ++ e) ∙ append_assoc a b (c ++ (d ++ e))))
 
-pub writes_transactions : WritesTransactions
-writes_transactions keyspace tables bytes after base entries g table time kind changes log lists is_rows written room short early =
+-- a transaction of one table map and one rows event, with the work that they tell, is the next entry of a whole log
+pub transaction_written : (keyspace : List ℕ) (tables : Schema) (bytes after : List ℕ) (base : Position) (entries : List Entry) (g : Gtid) (schema : List ℕ) (time kind : ℕ) (map_bytes rows_bytes : List ℕ) (maps : Tables) (all_told : List Counted) (work : Work) →
+    IsLogOf keyspace tables bytes base entries → (kind ≡ 30) ⊎ (kind ≡ 31) → after ≡ bytes ++ transaction_bytes g schema time kind map_bytes rows_bytes → length schema ≤ 255 → said keyspace schema begin_text (first_word begin_text) ≡ Begin →
+    with_map keyspace tables [] map_bytes ≡ Ok maps → counted_by keyspace kind (rows_meant maps kind rows_bytes) ≡ Ok all_told → IsWork all_told work →
+    ((size : ℕ) → length after ≡ length bytes + size → HasRoom bytes base entries g size) → time < 2 ^ 32 →
+    IsLogOf keyspace tables after base (entries ++ record { gtid = g; time = time; work = work } ∷ [])
+transaction_written keyspace tables bytes after base entries g schema time kind map_bytes rows_bytes maps all_told work log is_rows written short begins known_so told_so comes room early =
     let rules = rules_of keyspace tables in
-    let schema = schema_of keyspace in
-    let map_bytes = written.0 in
-    let rows_bytes = written.1 in
-    let tells = written.3 keyspace refl in
     let named = gtid_event time g in
     let begin = query_event time schema begin_text in
     let known = map_event time map_bytes in
     let told = rows_event time kind rows_bytes in
     let last = xid_event time in
     let all : List ℕ = transaction_bytes g schema time kind map_bytes rows_bytes in
-    let room_there : HasRoom bytes base entries g (length all) = room (length all) (ap length written.2 ∙ length-append bytes all) in
+    let room_there : HasRoom bytes base entries g (length all) = room (length all) (ap length written ∙ length-append bytes all) in
     let fits : length all ≤ limit = room_there.fits in
     let sum : length all ≡ length named + length begin + length known + length told + length last = written_lengths named begin known told last in
     let named_size : length named ≡ 44 = gtid_size time g room_there.uuid in
@@ -183,36 +187,36 @@ writes_transactions keyspace tables bytes after base entries g table time kind c
     let third_sort : sort_of known ≡ MapEvent = sort_is known time 19 map_bytes third in
     let fourth_sort : sort_of told ≡ RowsEvent = sort_is told time kind rows_bytes fourth ∙ rows_sort kind is_rows in
     let fifth_sort : sort_of last ≡ XidEvent = sort_is last time 16 (little_bytes 8 0) fifth in
-    let e : Entry = record { gtid = g; time = time; work = Rows changes } in
-    let begun : IsUnended rules (named ∷ begin ∷ known ∷ told ∷ []) g tells.maps (Rows changes) = record {
+    let e : Entry = record { gtid = g; time = time; work = work } in
+    let begun : IsUnended rules (named ∷ begin ∷ known ∷ told ∷ []) g maps work = record {
       gtid = named;
       begin = begin;
       middle = known ∷ told ∷ [];
       are = refl;
       names = record { kind = first_sort; layout = ap gtid_in first.body_is ∙ gtid_said g room_there.uuid };
-      begins = record { kind = second_sort; layout = ap rules.statement second.body_is ∙ statement_known keyspace tables schema begin_text (omega arith) };
-      counted = map Changed changes;
+      begins = record { kind = second_sort; layout = ap rules.statement second.body_is ∙ statement_known keyspace tables schema begin_text short ∙ ap Ok begins };
+      counted = all_told;
       tells = inl (
-        tells.maps,
-        record { kind = third_sort; layout = ap (rules.map []) third.body_is ∙ ap (or_why 19) (map_alike keyspace tables table map_bytes tells.maps lists tells.known) },
+        maps,
+        record { kind = third_sort; layout = ap (rules.map []) third.body_is ∙ ap (or_why 19) known_so },
         inr (inl (
-          map Changed changes,
+          all_told,
           [],
           record {
             kind = fourth_sort;
-            layout = ap (λ k. counted_by keyspace k (rows_meant tells.maps k (body_of told))) fourth.kind_is ∙ (ap (λ b. counted_by keyspace kind (rows_meant tells.maps kind b)) fourth.body_is ∙ ap (counted_by keyspace kind) tells.told);
+            layout = ap (λ k. counted_by keyspace k (rows_meant maps k (body_of told))) fourth.kind_is ∙ (ap (λ b. counted_by keyspace kind (rows_meant maps kind b)) fourth.body_is ∙ told_so);
           },
-          sym (append-nil (map Changed changes)),
+          sym (append-nil all_told),
           (refl, refl),
         )),
       );
-      comes = refl;
+      comes = comes;
     } in
     let transaction : IsTransaction rules (named ∷ begin ∷ known ∷ told ∷ last ∷ []) e = record {
       opened = named ∷ begin ∷ known ∷ told ∷ [];
       last = last;
       are = refl;
-      maps = tells.maps;
+      maps = maps;
       begun = begun;
       ends = inl (record { kind = fifth_sort; layout = omega (arith, ap length fifth.body_is) });
       time = sym fifth.time_is;
@@ -232,5 +236,11 @@ writes_transactions keyspace tables bytes after base entries g table time kind c
       ),
     ) in
     let whole = one_more rules bytes base entries (named ∷ begin ∷ known ∷ told ∷ last ∷ []) e log.whole goods entry room_there.new (omega (arith, ap length (joined_five named begin known told last), room_there.ends)) in
-    let there : IsWholeLog rules after base (entries ++ e ∷ []) = subst (λ z. IsWholeLog rules z base (entries ++ e ∷ [])) (ap (λ z. bytes ++ z) (joined_five named begin known told last) ∙ sym written.2) whole in
+    let there : IsWholeLog rules after base (entries ++ e ∷ []) = subst (λ z. IsWholeLog rules z base (entries ++ e ∷ [])) (ap (λ z. bytes ++ z) (joined_five named begin known told last) ∙ sym written) whole in
     record { whole = there; meant = whole_log rules after base (entries ++ e ∷ []) there }
+
+pub writes_transactions : WritesTransactions
+writes_transactions keyspace tables bytes after base entries g table time kind changes log lists is_rows written room short early =
+    let tells = written.3 keyspace refl in
+    transaction_written keyspace tables bytes after base entries g (schema_of keyspace) time kind written.0 written.1 tells.maps (map Changed changes) (Rows changes) log is_rows written.2 (omega arith) (begin_said keyspace)
+    (map_alike keyspace tables table written.0 tells.maps lists tells.known) (ap (counted_by keyspace kind) tells.told) refl room early

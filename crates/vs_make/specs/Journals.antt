@@ -1,5 +1,5 @@
 -- A journal that is written into the table of journals.
-use Rattle.std.specs.Prelude.{◌≡◌, ℕ, false, List, [], ◌∷◌, ◌++◌, codes, Ok}
+use Rattle.std.specs.Prelude.{◌≡◌, ◌+◌, ◌<◌, ◌^◌, ℕ, false, List, [], ◌∷◌, ◌++◌, codes, length, Ok}
 use Rattle.std.specs.Fmt.{signed_decimal}
 use Rattle.vs_base.specs.declared.cell.Cell.{Cell}
 use Rattle.vs_base.specs.declared.cell.Cell.TheVariants.{Bytes}
@@ -7,13 +7,18 @@ use Rattle.vs_base.specs.declared.change.Change.{Change}
 use Rattle.vs_base.specs.declared.table.Table.{Table}
 use Rattle.vs_base.specs.declared.table.ColumnKind.TheVariants.{BigInt, VarBinary, Blob}
 use Rattle.vs_base.specs.declared.Gtid.{Gtid}
-use Rattle.vs_journal.specs.Judgement.{PlainJournal}
+use Rattle.vs_gtid.specs.declared.Entry.{Entry}
+use Rattle.vs_gtid.specs.declared.JournalValue.{JournalValue}
+use Rattle.vs_gtid.specs.declared.Work.TheVariants as work
+use Rattle.vs_gtid.specs.Positions.{Position}
+use Rattle.vs_journal.specs.Judgement.{PlainJournal, journal_said, plain_journal}
 use Rattle.vs_journal.specs.Texts.{journal_text}
 use Rattle.vs_rows.specs.declared.outcome.RowsOf.TheVariants.{Journal}
 use Rattle.vs_rows.specs.Rows.{rows_meant}
 use Rattle.vs_rows.specs.Tables.{Tables, journal_name, schema_of, with_map}
 use Rattle.vs_schema.specs.declared.schema.Schema.{Schema}
 use Rattle.vs_make.specs.Rows.{inserted, transaction_bytes}
+use Rattle.vs_make.specs.Written.{HasRoom, IsLogOf}
 
 -- a schema without tables
 abbrev pub none : Schema
@@ -46,3 +51,11 @@ abbrev pub WritesJournal : List ℕ → List ℕ → Gtid → List ℕ → Plain
 WritesJournal before after g keyspace j time =
     (map_body rows_body : List ℕ) × (after ≡ before ++ transaction_bytes g (codes "_vt") time 30 map_body rows_body)
     × TellsJournal keyspace map_body rows_body (inserted journal_name (journal_row keyspace j))
+
+-- A transaction that inserts a journal that some text says, for shards of the keyspace, written behind a whole log, is its next entry: that journal.
+abbrev pub WritesJournals : Type 0
+WritesJournals =
+    (keyspace : List ℕ) (tables : Schema) (bytes after : List ℕ) (base : Position) (entries : List Entry) (g : Gtid) (j : JournalValue) (text : List ℕ) (time : ℕ) →
+    IsLogOf keyspace tables bytes base entries → journal_said text ≡ Ok (plain_journal j) → WritesJournal bytes after g keyspace (plain_journal j) time →
+    ((size : ℕ) → length after ≡ length bytes + size → HasRoom bytes base entries g size) → time < 2 ^ 32 →
+    IsLogOf keyspace tables after base (entries ++ record { gtid = g; time = time; work = work.Journal j } ∷ [])

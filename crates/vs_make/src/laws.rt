@@ -1,4 +1,5 @@
 //! What written logs mean, as contracts of functions that do nothing.
+ghost use Rattle.vs_make.specs.Journals.{WritesJournals};
 ghost use Rattle.vs_make.specs.Rows.{WritesTransactions};
 ghost use Rattle.vs_make.specs.Written.{WritesBases, WritesStatements};
 
@@ -16,4 +17,10 @@ pub fn law_bases()
 /// else is.
 pub fn law_transactions()
     ensures { WritesTransactions }
+{}
+
+/// A journal that is written behind a whole log, for shards of its keyspace, is read as its next
+/// entry, and nothing else is.
+pub fn law_journals()
+    ensures { WritesJournals }
 {}

@@ -13,5 +13,5 @@ mod tests;
 mod value;
 mod writer;
 
-pub use laws::{law_bases, law_statements, law_transactions};
+pub use laws::{law_bases, law_journals, law_statements, law_transactions};
 pub use writer::LogWriter;
