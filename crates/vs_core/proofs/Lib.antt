@@ -9,3 +9,4 @@ pub mod LaneStates
 pub mod TurnLemmas
 pub mod ArrivalLemmas
 pub mod ScanLemmas
+pub mod PartLemmas

@@ -7,3 +7,4 @@ pub mod Tells
 pub mod Framing
 pub mod Scans
 pub mod Arrivals
+pub mod Parts

@@ -20,6 +20,7 @@ ghost use Rattle.vs_vector.specs.Places.{most_shards};
 use crate::frames::put_journal;
 use crate::gate::Gate;
 use crate::handled::Handled;
+use crate::spelled::SpelledVector;
 use crate::{CoreRefusal, LaneState, OutOfMemory};
 use std::alloc::{AllocError, Global};
 use vs_base::ShardName;
@@ -67,10 +68,13 @@ impl Gate {
         let Some(name) = self.names.get(lane) else {
             return Err(CoreRefusal::Memory);
         };
-        if lane >= self.states.len() || !self.vector.stands(name) {
+        if lane >= self.states.len() || !self.vector.as_vector().stands(name) {
             return Err(CoreRefusal::Memory);
         }
-        match self.gather.check(alloc, &self.vector, name, journal) {
+        match self
+            .gather
+            .check(alloc, self.vector.as_vector(), name, journal)
+        {
             Ok(complete) => Ok(complete),
             Err(e) => Err(told_refusal(e)),
         }
@@ -90,7 +94,7 @@ impl Gate {
             return Err(CoreRefusal::Memory);
         };
         let journal = journal.copy(alloc)?;
-        keep(&mut self.gather, &self.vector, name, journal)?;
+        keep(&mut self.gather, self.vector.as_vector(), name, journal)?;
         self.states[lane] = LaneState::Over;
         Ok(Handled::Arrived)
     }
@@ -111,9 +115,9 @@ impl Gate {
             return Err(CoreRefusal::Memory);
         };
         let came = journal.copy(alloc)?;
-        let vgtid = self.vector.message(alloc)?;
+        let vgtid = self.vector.as_vector().message(alloc)?;
         put_journal(alloc, out, true, journal, vgtid)?;
-        complete(&mut self.gather, &self.vector, name, came);
+        complete(&mut self.gather, self.vector.as_vector(), name, came);
         self.states[lane] = LaneState::Over;
         Ok(Handled::Halted { id: journal.id })
     }
@@ -133,12 +137,13 @@ impl Gate {
         let Some(name) = self.names.get(lane) else {
             return Err(CoreRefusal::Memory);
         };
-        let vector = switched(&self.vector, journal)?;
+        let next = switched(self.vector.as_vector(), journal)?;
         let Exchanged { retired, started } = exchanged_names(alloc, journal)?;
         let came = journal.copy(alloc)?;
-        let vgtid = vector.message(alloc)?;
+        let vgtid = next.message(alloc)?;
+        let vector = SpelledVector::new(alloc, next)?;
         put_journal(alloc, out, self.flags.include_journals, journal, vgtid)?;
-        complete(&mut self.gather, &self.vector, name, came);
+        complete(&mut self.gather, self.vector.as_vector(), name, came);
         self.vector = vector;
         self.states[lane] = LaneState::Over;
         Ok(Handled::Switched { retired, started })

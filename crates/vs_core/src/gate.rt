@@ -3,6 +3,7 @@ ghost use Rattle.std.specs.Prelude.{◌≡◌, ◌++◌, ◌∷◌, IfOk, OnErr,
 ghost use Rattle.vs_core.specs.Machine.{initial, lane_begun};
 ghost use Rattle.vs_gather.specs.Gathering.{AreWaiting};
 
+use crate::spelled::SpelledVector;
 use crate::{LaneState, OutOfMemory};
 use std::alloc::{AllocError, Global};
 use std::marker::Model;
@@ -16,7 +17,7 @@ use vs_vector::Vector;
 #[derive(Drop)]
 pub(crate) struct Gate {
     pub(crate) alloc: Global,
-    pub(crate) vector: Vector,
+    pub(crate) vector: SpelledVector,
     pub(crate) names: Vec<ShardName>,
     pub(crate) states: Vec<LaneState>,
     pub(crate) gather: Gather,
@@ -35,19 +36,24 @@ impl Model for Gate {
 }
 
 impl Gate {
-    pub(crate) fn new(alloc: Global, vector: Vector, flags: Flags, until_end: bool) -> Gate
-        ensures { result ≡ initial vector flags until_end }
+    pub(crate) fn new(
+        alloc: Global,
+        vector: Vector,
+        flags: Flags,
+        until_end: bool,
+    ) -> Result<Gate, OutOfMemory>
+        ensures { IfOk result (λ g. g ≡ initial vector flags until_end) }
     {
-        Gate {
+        Ok(Gate {
             alloc,
-            vector,
+            vector: SpelledVector::new(alloc, vector)?,
             names: Vec::new(alloc),
             states: Vec::new(alloc),
             gather: Gather::new(alloc),
             all_copied: false,
             flags,
             until_end,
-        }
+        })
     }
 
     /// The skew that was asked for, in seconds.

@@ -16,6 +16,7 @@ mod permits;
 mod refusal;
 mod rest;
 mod scans;
+mod spelled;
 #[cfg(test)]
 mod tests;
 mod turn;

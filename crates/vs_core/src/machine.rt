@@ -38,7 +38,7 @@ impl Core {
         ensures { IfOk result (λ c. c ≡ initial vector flags until_end) }
     {
         Ok(Core {
-            gate: Gate::new(alloc, vector, flags, until_end),
+            gate: Gate::new(alloc, vector, flags, until_end)?,
             held: VecDeque::new(alloc),
         })
     }
@@ -69,7 +69,7 @@ impl Core {
     pub fn vector(&self) -> &Vector
         ensures { result.now ≡ self.now.vector }
     {
-        &self.gate.vector
+        self.gate.vector.as_vector()
     }
 
     /// Ends the core. The rooms of the pieces that were not handled are in what is left.

@@ -11,13 +11,14 @@ ghost use Rattle.vs_render.specs.Events.{head_of, plain_event, vector_event};
 ghost use Rattle.vs_render.specs.declared.piece.Piece.TheVariants as piece;
 ghost use Rattle.vs_render.specs.declared.room.Room.{Room};
 ghost use Rattle.vs_vector.specs.Changes.{advanced_place, set_to};
-ghost use Rattle.vs_vector.specs.Messages.{vgtid_of};
+ghost use Rattle.vs_vector.specs.Messages.{shard_gtid_of, vgtid_of};
 ghost use Rattle.vs_vector.specs.Places.{entry_place};
 
 use crate::frames::put_copied;
 use crate::gate::Gate;
 use crate::handled::Handled;
 use crate::scans::some_copies;
+use crate::spelled::{SpelledEntry, SpelledVector, streaming_part};
 use crate::{CoreRefusal, OutOfMemory};
 use std::alloc::{AllocError, Global};
 use vs_base::{Gtid, LastKey, ShardName};
@@ -40,7 +41,7 @@ impl Gate {
     {
         match self.names.get(lane) {
             Some(name) => {
-                let at = advanced_entry(alloc, &self.vector, name, gtid)?;
+                let at = advanced_entry(alloc, self.vector.as_vector(), name, gtid)?;
                 send_moved(alloc, out, &mut self.vector, name, at, time, body)?;
                 Ok(Handled::Frame)
             }
@@ -63,13 +64,13 @@ impl Gate {
     {
         match self.names.get(lane) {
             Some(name) => {
-                if self.gather.foreign(&self.vector, name, journal) {
+                if self.gather.foreign(self.vector.as_vector(), name, journal) {
                     return Err(CoreRefusal::Stranger {
                         id: journal.id,
                         shard: name.copy(alloc)?,
                     });
                 }
-                let at = advanced_entry(alloc, &self.vector, name, gtid)?;
+                let at = advanced_entry(alloc, self.vector.as_vector(), name, gtid)?;
                 send_moved(alloc, out, &mut self.vector, name, at, time, body)?;
                 Ok(Handled::Frame)
             }
@@ -92,7 +93,7 @@ impl Gate {
     {
         match self.names.get(lane) {
             Some(name) => {
-                let at = copying_entry(alloc, &self.vector, name, position, last_key)?;
+                let at = copying_entry(alloc, self.vector.as_vector(), name, position, last_key)?;
                 send_moved(alloc, out, &mut self.vector, name, at, time, body)?;
                 Ok(Handled::Frame)
             }
@@ -113,12 +114,12 @@ impl Gate {
     {
         match self.names.get(lane) {
             Some(name) => {
-                if !self.vector.stands(name) {
+                if !self.vector.as_vector().stands(name) {
                     return Err(CoreRefusal::Memory);
                 }
                 let at = streaming_entry(alloc, position)?;
                 send_copied(alloc, out, &mut self.vector, name, at, time)?;
-                self.all_copied = !some_copies(&self.vector);
+                self.all_copied = !some_copies(self.vector.as_vector());
                 Ok(Handled::Frame)
             }
             None => Err(CoreRefusal::Memory),
@@ -180,7 +181,7 @@ fn streaming_entry(alloc: Global, position: &GtidSet) -> Result<ShardAt, OutOfMe
 fn send_moved(
     alloc: Global,
     out: &mut Vec<u8>,
-    vector: &mut Vector,
+    vector: &mut SpelledVector,
     name: &ShardName,
     at: ShardAt,
     time: u32,
@@ -191,10 +192,55 @@ fn send_moved(
     ensures sends { OnOk result (out.new.items ≡ out.old.items ++ frame_with (head_of name.now time) (moved vector.old name.now (entry_place at)) body.now.body) }
     ensures unchanged { OnErr result ((vector.new ≡ vector.old) × (out.new.items ≡ out.old.items)) }
 {
-    let vgtid = vector.message_with(alloc, name, &at)?;
-    put_frame_with(alloc, out, name, time, &vgtid, body)?;
-    vector.exchange(name, at);
-    Ok(())
+    match &at {
+        ShardAt {
+            start: Place::At(position),
+            last_key: None,
+        } => {
+            let part = streaming_part(alloc, name, position)?;
+            send_exchanged(
+                alloc,
+                out,
+                vector,
+                name,
+                SpelledEntry { at, part },
+                time,
+                body,
+            )
+        }
+        _ => {
+            let message = vector.as_vector().message_with(alloc, name, &at)?;
+            put_frame_with(alloc, out, name, time, &message, body)?;
+            vector.exchange_all(name, at, message);
+            Ok(())
+        }
+    }
+}
+
+/// The same of an entry whose part of the message is spelled.
+fn send_exchanged(
+    alloc: Global,
+    out: &mut Vec<u8>,
+    vector: &mut SpelledVector,
+    name: &ShardName,
+    entry: SpelledEntry,
+    time: u32,
+    body: &Body,
+) -> Result<(), OutOfMemory>
+    requires there { IsTrue (stands vector.old name.now) }
+    requires spelled { entry.part ≡ shard_gtid_of name.now (entry_place entry.at) }
+    ensures moves { OnOk result (vector.new ≡ moved vector.old name.now (entry_place entry.at)) }
+    ensures sends { OnOk result (out.new.items ≡ out.old.items ++ frame_with (head_of name.now time) (moved vector.old name.now (entry_place entry.at)) body.now.body) }
+    ensures unchanged { OnErr result ((vector.new ≡ vector.old) × (out.new.items ≡ out.old.items)) }
+{
+    let old = vector.exchange(alloc, name, entry);
+    match put_frame_with(alloc, out, name, time, vector.message(), body) {
+        Ok(()) => Ok(()),
+        Err(e) => {
+            vector.exchange(alloc, name, old);
+            Err(e)
+        }
+    }
 }
 
 /// Writes the frame of the end of a copy, with the vector in which the shard has another entry, and
@@ -202,7 +248,7 @@ fn send_moved(
 fn send_copied(
     alloc: Global,
     out: &mut Vec<u8>,
-    vector: &mut Vector,
+    vector: &mut SpelledVector,
     name: &ShardName,
     at: ShardAt,
     time: u32,
@@ -212,8 +258,9 @@ fn send_copied(
     ensures sends { OnOk result (out.new.items ≡ out.old.items ++ message_bytes (vector_event (head_of name.now time) (vgtid_of (moved vector.old name.now (entry_place at))) ∷ (plain_event (head_of name.now time) COPY_COMPLETED ∷ []))) }
     ensures unchanged { OnErr result ((vector.new ≡ vector.old) × (out.new.items ≡ out.old.items)) }
 {
-    let vgtid = vector.message_with(alloc, name, &at)?;
-    put_copied(alloc, out, name, time, vgtid)?;
-    vector.exchange(name, at);
+    let message = vector.as_vector().message_with(alloc, name, &at)?;
+    let sent = vector.as_vector().message_with(alloc, name, &at)?;
+    put_copied(alloc, out, name, time, sent)?;
+    vector.exchange_all(name, at, message);
     Ok(())
 }

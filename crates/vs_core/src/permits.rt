@@ -18,7 +18,7 @@ impl Core {
     {
         let gate = &self.gate;
         let live = has_live(gate.names.as_slice(), gate.states.as_slice(), name);
-        gate.vector.stands(name) && !live && !gate.gather.waits(name)
+        gate.vector.as_vector().stands(name) && !live && !gate.gather.waits(name)
     }
 
     /// Whether a piece of the lane may be taken.

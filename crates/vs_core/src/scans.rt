@@ -168,7 +168,7 @@ impl Gate {
     fn ends_at(&self, i: usize) -> bool
         ensures { result ≡ option_map_or (is_at_end self.now) (slice_get (names self.now.vector) i) true }
     {
-        match self.vector.name_at(i) {
+        match self.vector.as_vector().name_at(i) {
             Some(name) => self.is_at_end(name),
             None => true,
         }
@@ -178,7 +178,7 @@ impl Gate {
     fn waits_at(&self, i: usize) -> bool
         ensures { result ≡ option_map_or (waits self.now.kept) (slice_get (names self.now.vector) i) false }
     {
-        match self.vector.name_at(i) {
+        match self.vector.as_vector().name_at(i) {
             Some(name) => self.gather.waits(name),
             None => false,
         }
@@ -193,7 +193,7 @@ impl Gate {
         let mut all_ended = true;
         let mut all_rest = true;
         let mut some_wait = false;
-        for i in 0..self.vector.len() {
+        for i in 0..self.vector.as_vector().len() {
             let ended = self.ends_at(i);
             let waiting = self.waits_at(i);
             all_ended = both(all_ended, ended);

@@ -1,5 +1,6 @@
 use Rattle.std.proofs.Common.{ap, sym, refl, ◌∙◌, [], slice_set}
 use Rattle.vs_gather.specs.Gathering.{arrival}
+use Rattle.vs_gtid.specs.Vectors.{Vector}
 use Rattle.vs_core.specs.Machine.{CoreState}
 use Rattle.vs_core.specs.declared.lane.LaneState.TheVariants.{Over}
 use Rattle.vs_core.proofs.ArrivalLemmas.{named_at, wait_went, will_wait}
@@ -10,7 +11,7 @@ keep-requires-clause-waits c =
     let s = c.args.self.now in
     let n = c.in-Some.name.now in
     let got = will_wait s c.args.lane c.args.journal.now n (named_at s _ c.deref.result.now c.args.lane c.in-Some.name c.self.view_is c.deref.ensures.value c.in-Some.ensures.lookup) c.requires in
-    (got.0, ap (λ (y : CoreState). arrival y.vector n c.in_ok-journal.journal y.kept) c.self.view_is ∙ ap (λ i. arrival s.vector n i s.kept) c.in_ok-journal.ensures ∙ got.1)
+    (got.0, ap (λ (v : Vector). arrival v n c.in_ok-journal.journal c.self.inside.gather) c.as_vector.ensures ∙ ap (λ (y : CoreState). arrival y.vector n c.in_ok-journal.journal y.kept) c.self.view_is ∙ ap (λ i. arrival s.vector n i s.kept) c.in_ok-journal.ensures ∙ got.1)
 
 pub returns : goal.returns
 returns c = λ room before.
@@ -29,5 +30,5 @@ returns c = λ room before.
     } in
     wait_went s.flags.include_journals s (here view) c.args.lane n before before (named_at s view c.deref.result.now c.args.lane c.in-Some.name c.self.view_is c.deref.ensures.value c.in-Some.ensures.lookup)
     c.args.journal.now room c.keep.new.gather
-    (sym (ap (λ (y : CoreState). arrival y.vector n c.in_ok-journal.journal y.kept) c.self.view_is ∙ ap (λ i. arrival s.vector n i s.kept) c.in_ok-journal.ensures) ∙ c.in_ok-keep.ensures.ok)
+    (sym (ap (λ (v : Vector). arrival v n c.in_ok-journal.journal c.self.inside.gather) c.as_vector.ensures ∙ ap (λ (y : CoreState). arrival y.vector n c.in_ok-journal.journal y.kept) c.self.view_is ∙ ap (λ i. arrival s.vector n i s.kept) c.in_ok-journal.ensures) ∙ c.in_ok-keep.ensures.ok)
     (ap here c.self.view_is) refl
