@@ -6,3 +6,4 @@ pub mod Feeds
 pub mod Searches
 pub mod Stepping
 pub mod Starting
+pub mod Spelled

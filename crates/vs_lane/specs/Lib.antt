@@ -4,3 +4,4 @@ pub mod Stands
 pub mod Steps
 pub mod Answers
 pub mod Ends
+pub mod Spelled

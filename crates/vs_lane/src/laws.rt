@@ -16,6 +16,7 @@ ghost use Rattle.vs_render.specs.Bodies.{columns_in};
 ghost use Rattle.vs_render.specs.Posted.{ArePosted, spelled_by};
 ghost use Rattle.vs_render.specs.declared.piece.Piece.{Piece};
 ghost use Rattle.vs_lane.specs.Pieces.{meant_in};
+ghost use Rattle.vs_lane.specs.Spelled.{EntriesMakeFrames, RowsMakeFrames};
 ghost use Rattle.vs_lane.specs.Stands.{IsAtEnd, Leads, Seen, Stands, lacking, log_seen, position_after};
 ghost use Rattle.vs_lane.specs.Steps.{AreIn, StepFor};
 
@@ -34,6 +35,13 @@ pub fn law_posted()
         Stands first [] → Leads first last (taken ++ more) → first.all ≡ Some all →
         log_of cluster first.shard ≡ log_seen first all → rules first.shard ≡ meant_in first.bound first.schema → fields first.shard ≡ columns_in first.bound.tables →
         ArePosted (spelled_by fields) cluster rules first.shard first.start taken }
+{}
+
+/// What bodies spell, by the columns that are told of each shard's tables, makes the frames of entries
+/// and of rows, with the vector put in.
+pub fn law_spelled()
+    ensures entries { EntriesMakeFrames }
+    ensures rows { RowsMakeFrames }
 {}
 
 /// What a step owes carries all that led to the lane on. Behind entries that the lane's place has, the

@@ -10,7 +10,7 @@ mod piece;
 mod seek;
 
 pub use lane::Lane;
-pub use laws::{law_leads, law_posted, law_step};
+pub use laws::{law_leads, law_posted, law_spelled, law_step};
 
 /// The one fault of a call that only takes memory.
 pub type OutOfMemory = std::alloc::AllocError;

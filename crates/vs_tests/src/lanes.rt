@@ -6,7 +6,7 @@ use crate::logs::{
 };
 use std::alloc::{AllocError, Global};
 use std::process::Abort;
-use vs_base::{Gtid, List, RuleText, ShardName, Text};
+use vs_base::{List, RuleText, ShardName, Text};
 use vs_filter::{Bound, Filter};
 use vs_gtid::GtidSet;
 use vs_lane::Lane;
@@ -110,7 +110,7 @@ static WHOLE: [Case<'static>; 8] = [
     },
 ];
 
-static FED: [Case<'static>; 4] = [
+static FED: [Case<'static>; 5] = [
     Case {
         what: "a feed that waits at the front",
         log: FIRST_ALONE,
@@ -128,6 +128,12 @@ static FED: [Case<'static>; 4] = [
     Case {
         what: "a feed that fails before an entry is whole",
         feed: &[FeedAnswer::Give(100), FeedAnswer::Fail],
+        told: &[Told::FeedFault],
+        ..CASE
+    },
+    Case {
+        what: "a feed that fails before the next is whole",
+        feed: &[FeedAnswer::Give(180), FeedAnswer::Fail],
         told: &[Told::FeedFault],
         ..CASE
     },
@@ -452,10 +458,9 @@ fn a_picked_body_is_that_of_its_frame(rt: HostRuntime) -> Result<(), AllocError>
 }
 
 #[test]
-fn laws_are_called(rt: HostRuntime) {
+fn laws_are_called() {
     vs_lane::law_leads();
     vs_lane::law_posted();
+    vs_lane::law_spelled();
     vs_lane::law_step();
-    let _gtid = Gtid::new([0; 16], 1);
-    assert!(rt; _gtid.is_some());
 }
