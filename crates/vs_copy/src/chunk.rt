@@ -1,7 +1,7 @@
 ghost use Rattle.std.specs.Prelude.{◌≡◌, ◌≤◌, IfOk, IfSome, None, Some, map, min};
 ghost use Rattle.std.specs.List.{filter_map, last_or};
 ghost use Rattle.std.specs.Map.{values_of};
-ghost use Rattle.std.specs.Option.{option_copied, option_map};
+ghost use Rattle.std.specs.Option.{option_map};
 ghost use Rattle.vs_base.specs.Cells.{row_size};
 ghost use Rattle.vs_base.specs.Keys.{project};
 ghost use Rattle.vs_select.specs.Rows.{taken_row};
@@ -13,7 +13,7 @@ use std::alloc::Global;
 use std::collections::btree_map::Range;
 use vs_base::{Cell, Image, LastKey, List, OutOfMemory, Text};
 use vs_select::BoundSelect;
-use vs_tables::KeyPart;
+use vs_tables::{PackedRow, RowKey};
 
 /// The rows of a table that a copy tells next, as they are picked, and the key of the last of them.
 #[derive(Debug, Drop)]
@@ -87,12 +87,12 @@ fn finish(
     alloc: Global,
     table: &CopiedTable,
     rows: List<Image>,
-    last: Option<&Image>,
+    last: Option<Image>,
 ) -> Result<Taken, OutOfMemory>
     ensures rows { IfOk result (λ taken. taken.rows ≡ rows) }
-    ensures last { IfOk result (λ taken. taken.last ≡ option_map (project table.now.table.key) (option_copied last.entry)) }
+    ensures last { IfOk result (λ taken. taken.last ≡ option_map (project table.now.table.key) last) }
 {
-    let last = match last {
+    let last = match &last {
         Some(row) => key_of(alloc, table, row)?,
         None => None,
     };
@@ -103,7 +103,7 @@ fn finish(
 pub(crate) fn take_rows(
     alloc: Global,
     table: &CopiedTable,
-    rows: Range<'_, List<KeyPart>, Image>,
+    rows: Range<'_, RowKey, PackedRow>,
 ) -> Result<Taken, OutOfMemory>
     ensures rows { IfOk result (λ taken. taken.rows ≡ map (λ row. row.1) (chunk_of (filter_map (told_row table.now) (values_of rows.entry)))) }
     ensures last { IfOk result (λ taken. taken.last ≡ last_or None (map (λ row. row.0) (chunk_of (filter_map (told_row table.now) (values_of rows.entry))))) }
@@ -112,7 +112,8 @@ pub(crate) fn take_rows(
     let mut last = None;
     let mut size = 0usize;
     for (_, row) in rows {
-        if let Some(told) = told_row(alloc, table, row)? {
+        let row = row.image(alloc)?;
+        if let Some(told) = told_row(alloc, table, &row)? {
             if !has_room(taken.as_slice().len(), size, told.size) {
                 return finish(alloc, table, taken, last);
             }

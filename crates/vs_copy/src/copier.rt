@@ -32,7 +32,7 @@ use std::marker::Model;
 use vs_base::{Change, Image, LastKey, List, OutOfMemory, Text};
 use vs_filter::Bound;
 use vs_schema::Schema;
-use vs_tables::{KeyPart, TableRefusal, Tables, compare_keys};
+use vs_tables::{PackedRow, RowKey, TableRefusal, Tables, compare_keys};
 
 /// A copy of the picked tables of a shard.
 #[derive(Debug, Drop)]
@@ -213,7 +213,7 @@ fn image_told(
 
 impl Copier {
     /// The rows of a table behind the last row that was sent, picked or not.
-    fn rows_left(&self, name: &[u8]) -> Result<Option<Range<'_, List<KeyPart>, Image>>, OutOfMemory>
+    fn rows_left(&self, name: &[u8]) -> Result<Option<Range<'_, RowKey, PackedRow>>, OutOfMemory>
         ensures rows { IfOk result (λ rows. listed (option_map values_of rows) ≡ rows_left self.now name.now) }
         ensures lawful { IfOk result (λ rows. IfSome rows (λ _. IfSome (table_rows self.now.applied.tables name.now) AreLawfulRows)) }
     {

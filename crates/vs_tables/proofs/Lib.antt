@@ -1,3 +1,4 @@
+mod PackLemmas
 mod PartLemmas
 mod RowLemmas
 mod TableLemmas

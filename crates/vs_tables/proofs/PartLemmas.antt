@@ -3,8 +3,7 @@ use Rattle.std.proofs.Common.{◌≡◌, ℕ, suc, List, [], ◌∷◌, length, 
 use Rattle.std.specs.Prelude.{ℤ}
 use Rattle.std.specs.Ordering.{nat_cmp, int_cmp, ordering_then}
 use Rattle.std.specs.FinMap.{IsAntisymmetric, int_cmp-IsAntisymmetric, nat_cmp-IsAntisymmetric, slice_cmp-IsAntisymmetric}
-use Rattle.std.specs.Cmp.{IsTotalOrder}
-use Rattle.std.specs.Cmp.Lexicographic.{lists_total, slice_cmp}
+use Rattle.std.specs.Cmp.Lexicographic.{slice_cmp}
 use Rattle.std.specs.declared.cmp.Ordering.{Ordering}
 use Rattle.std.specs.declared.cmp.Ordering.TheVariants.{Less, Greater}
 use Rattle.std.proofs.lemmas.Bool.Decides.{nat_tests}
@@ -16,13 +15,9 @@ use Rattle.vs_tables.specs.Parts.{part_by, part_of, parts_of}
 use Rattle.vs_tables.specs.Rows.{parts_order}
 use Rattle.vs_tables.specs.declared.key.KeyPart.{KeyPart}
 use Rattle.vs_tables.specs.contracts.key.KeyPartOrd.TheImpl as parts
-use Rattle.vs_tables.specs.contracts.key.KeyPartOrd.TheImpl.Laws.{total-law}
 
 abbrev part_order : KeyPart → KeyPart → Ordering
 part_order = parts.ghosts.cmp
-
-pub parts_total : IsTotalOrder parts_order
-parts_total = lists_total total-law
 
 part_exact : IsAntisymmetric part_order
 part_exact KeyPart.Null KeyPart.Null e = refl

@@ -16,7 +16,8 @@ use Rattle.vs_base.specs.Keys.{key_order, project}
 use Rattle.vs_tables.specs.declared.key.KeyPart.{KeyPart}
 use Rattle.vs_tables.specs.Parts.{fits_limits, parts_of}
 use Rattle.vs_tables.specs.Rows.{AreKept, AreLawfulRows, RowsAscend, StandAtKeys, TableRows, parts_order}
-use Rattle.vs_tables.proofs.PartLemmas.{ordered_alike, parts_exact, parts_total}
+use Rattle.vs_tables.specs.RowKeys.{parts_total}
+use Rattle.vs_tables.proofs.PartLemmas.{ordered_alike, parts_exact}
 
 module _ (kinds : List ColumnKind) (places : List ℕ) where
   abbrev Entries : Type 0

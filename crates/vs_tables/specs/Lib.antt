@@ -1,3 +1,5 @@
 pub mod Parts
+pub mod Packed
 pub mod Rows
+pub mod RowKeys
 pub mod Changes

@@ -22,7 +22,8 @@ ghost use Rattle.vs_tables.specs.Rows.{
   row_key,
 };
 
-use crate::key::{KeyPart, fits_limits, key_kinds, key_parts, row_parts};
+use crate::key::{fits_limits, key_kinds, key_parts, row_parts};
+use crate::{PackedRow, RowKey};
 use std::alloc::{AllocError, Global};
 use std::collections::BTreeMap;
 use std::collections::btree_map::Range;
@@ -38,7 +39,7 @@ pub struct KeyedRows {
     places: List<usize>,
     kinds: List<ColumnKind>,
     /// each at its own key
-    rows: BTreeMap<List<KeyPart>, Image>,
+    rows: BTreeMap<RowKey, PackedRow>,
 }
 
 impl Model for KeyedRows {
@@ -72,10 +73,7 @@ impl From<AllocError> for Unfit {
 }
 
 /// The rows behind a key.
-fn above<'a>(
-    rows: &'a BTreeMap<List<KeyPart>, Image>,
-    key: &List<KeyPart>,
-) -> Range<'a, List<KeyPart>, Image>
+fn above<'a>(rows: &'a BTreeMap<RowKey, PackedRow>, key: &RowKey) -> Range<'a, RowKey, PackedRow>
     ensures { result ≡ entries_between parts_order (Bound.Excluded key.now) Bound.Unbounded rows.now.entries }
 {
     rows.range((Bound::Excluded(key), Bound::Unbounded))
@@ -101,10 +99,11 @@ impl KeyedRows {
     }
 
     /// The key of a row, as the map has it.
-    fn key(&self, alloc: Global, row: &Image) -> Result<List<KeyPart>, OutOfMemory>
+    fn key(&self, alloc: Global, row: &Image) -> Result<RowKey, OutOfMemory>
         ensures { IfOk result (λ key. key ≡ parts_of self.now.kinds (row_key self.now row.now)) }
     {
-        row_parts(alloc, self.kinds.as_slice(), self.places.as_slice(), row)
+        let parts = row_parts(alloc, self.kinds.as_slice(), self.places.as_slice(), row)?;
+        RowKey::new(alloc, parts)
     }
 
     /// Takes away the row at the key of this one; false where there is none.
@@ -130,7 +129,8 @@ impl KeyedRows {
         ensures { OnOk result (self.new ≡ with_come self.old (Some row.now)) }
     {
         let key = self.key(alloc, row)?;
-        self.rows.insert(key, row.copy(alloc)?)?;
+        let packed = PackedRow::new(alloc, row)?;
+        self.rows.insert(key, packed)?;
         Ok(())
     }
 
@@ -174,7 +174,7 @@ impl KeyedRows {
         &self,
         alloc: Global,
         key: Option<&Image>,
-    ) -> Result<Range<'_, List<KeyPart>, Image>, OutOfMemory>
+    ) -> Result<Range<'_, RowKey, PackedRow>, OutOfMemory>
         ensures rows { IfOk result (λ rows. values_of rows ≡ rows_behind self.now (option_copied key.entry)) }
         ensures lawful { AreLawfulRows self.now }
     {
@@ -182,6 +182,7 @@ impl KeyedRows {
             return Ok(self.rows.range(..));
         };
         let parts = key_parts(alloc, self.kinds.as_slice(), key.cells())?;
-        Ok(above(&self.rows, &parts))
+        let key = RowKey::new(alloc, parts)?;
+        Ok(above(&self.rows, &key))
     }
 }

@@ -3,12 +3,16 @@
 
 mod key;
 mod keyed;
+mod packed;
 mod refusal;
+mod row_key;
 mod tables;
 #[cfg(test)]
 mod tests;
 
 pub use key::{KeyPart, compare_keys, key_kinds};
 pub use keyed::KeyedRows;
+pub use packed::PackedRow;
 pub use refusal::TableRefusal;
+pub use row_key::RowKey;
 pub use tables::Tables;

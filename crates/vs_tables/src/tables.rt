@@ -30,11 +30,11 @@ ghost use Rattle.vs_tables.specs.Changes.{
 ghost use Rattle.vs_tables.specs.Rows.{AreLawfulRows, is_table_named, table_rows};
 
 use crate::keyed::{KeyedRows, Unfit};
-use crate::{KeyPart, TableRefusal};
+use crate::{PackedRow, RowKey, TableRefusal};
 use std::alloc::Global;
 use std::collections::btree_map::Range;
 use std::marker::Model;
-use vs_base::{Change, Image, List, OutOfMemory, Table, Text};
+use vs_base::{Change, Image, OutOfMemory, Table, Text};
 use vs_schema::Schema;
 
 /// The rows of the tables of a schema that have a key, after the changes that were applied.
@@ -91,7 +91,7 @@ impl Tables {
         &self,
         table: &[u8],
         key: Option<&Image>,
-    ) -> Result<Option<Range<'_, List<KeyPart>, Image>>, OutOfMemory>
+    ) -> Result<Option<Range<'_, RowKey, PackedRow>>, OutOfMemory>
         ensures rows { IfOk result (λ rows. option_map values_of rows ≡ rows_in self.now.tables table.now (option_copied key.entry)) }
         ensures lawful { IfSome (table_rows self.now.tables table.now) AreLawfulRows }
     {
@@ -109,7 +109,7 @@ impl Tables {
         &self,
         table: &[u8],
         key: Option<&Image>,
-    ) -> Result<Option<&Image>, OutOfMemory>
+    ) -> Result<Option<&PackedRow>, OutOfMemory>
         ensures { IfOk result (λ row. option_copied row ≡ next_in self.now.tables table.now (option_copied key.entry)) }
     {
         let Some(mut rows) = self.rows_after(table, key)? else {

@@ -114,7 +114,7 @@ fn is_next(
 ) -> Result<bool, OutOfMemory> {
     let wanted = image(alloc, row.0, row.1, 2)?;
     match tables.next_after(table, key)? {
-        Some(next) => Ok(next.cells() == wanted.cells()),
+        Some(next) => Ok(next.image(alloc)?.cells() == wanted.cells()),
         None => Ok(false),
     }
 }

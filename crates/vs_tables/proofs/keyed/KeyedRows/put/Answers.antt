@@ -16,9 +16,9 @@ one_more : (c : goal.Joined-branch-4) → c.insert.new.self.entries
     ≡ insert_entry parts_order c.self.inside.rows.entries (parts_of c.self.inside.kinds (project c.self.inside.places c.args.row.now)) c.args.row.now
 one_more c =
     c.in_ok-insert.ensures.entries
-    ∙ ap (λ parts. insert_entry parts_order c.self.inside.rows.entries parts c.in_ok-copy.field-0)
+    ∙ ap (λ parts. insert_entry parts_order c.self.inside.rows.entries parts c.in_ok-packed.packed)
     (c.in_ok-key.ensures ∙ ap (λ t. parts_of t.kinds (row_key t c.args.row.now)) (sym c.self.view_is))
-    ∙ ap (insert_entry parts_order c.self.inside.rows.entries (parts_of c.self.inside.kinds (project c.self.inside.places c.args.row.now))) c.in_ok-copy.ensures
+    ∙ ap (insert_entry parts_order c.self.inside.rows.entries (parts_of c.self.inside.kinds (project c.self.inside.places c.args.row.now))) c.in_ok-packed.ensures
 
 pub invariant_of-self-2 : goal.invariant_of-self-2
 invariant_of-self-2 c =

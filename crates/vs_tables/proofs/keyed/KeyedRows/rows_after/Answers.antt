@@ -18,11 +18,15 @@ pub returns-in_err-parts-clause-lawful : goal.returns-in_err-parts-clause-lawful
 returns-in_err-parts-clause-lawful c =
     subst AreLawfulRows c.self.view_is (lawful c.self.inside.name c.self.inside.places c.self.inside.kinds c.self.inside.rows.entries c.self.invariant)
 
+pub returns-in_err-key-clause-lawful : goal.returns-in_err-key-clause-lawful
+returns-in_err-key-clause-lawful c =
+    subst AreLawfulRows c.self.view_is (lawful c.self.inside.name c.self.inside.places c.self.inside.kinds c.self.inside.rows.entries c.self.invariant)
+
 pub returns-clause-rows : goal.returns-clause-rows
 returns-clause-rows c =
     let own = c.self.inside in
-    rows_above own.kinds own.places c.in-Some.key.now c.in_ok-parts.parts own.rows.entries c.above.result
-    (c.in_ok-parts.ensures ∙ ap₂ parts_of c.as_slice.ensures c.cells.ensures) c.self.invariant.keyed c.above.ensures
+    rows_above own.kinds own.places c.in-Some.key.now c.in_ok-key.key own.rows.entries c.above.result
+    (c.in_ok-key.ensures ∙ c.in_ok-parts.ensures ∙ ap₂ parts_of c.as_slice.ensures c.cells.ensures) c.self.invariant.keyed c.above.ensures
     ∙ ap (λ t. rows_behind t (Some c.in-Some.key.now)) c.self.view_is
     ∙ ap (λ k. rows_behind c.args.self.now (option_copied k)) (sym c.in-Some.is)
 
