@@ -1,0 +1,6 @@
+pub mod NameLists
+pub mod AskedLemmas
+pub mod Ascending
+pub mod LawLemmas
+pub mod OutsideLemmas
+mod Examples
