@@ -8,6 +8,7 @@ those of the frame. Where no protoc is on the path this says so, and nothing is 
 """
 import os
 import shutil
+import signal
 import subprocess
 import sys
 
@@ -34,6 +35,8 @@ def frames(data):
 
 
 def main():
+    # where the reader is gone, end without a trace
+    signal.signal(signal.SIGPIPE, signal.SIG_DFL)
     if shutil.which("protoc") is None:
         print("skipped: no protoc is on the path")
         return 0

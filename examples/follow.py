@@ -11,8 +11,9 @@ or {"base64": ..} where the bytes aren't UTF-8.
 
 The file VECTOR has the position vector of the last whole frame. It is replaced by a rename, after the frame's
 changes were printed: where this program is killed between the two, the next run prints that frame again, and no
-frame is ever left out. The request is that of the vector, or where there is no such file yet of the shard and
-position that are given, as `commerce/0 MySQL56/`.
+frame is ever left out. A transaction of over 8 MiB is a frame of several messages, and is printed once the last one has
+come. The request is that of the vector, or where there is no such file yet of the shard and position that are given, as
+`commerce/0 MySQL56/`.
 
 --bytes: a statement that isn't UTF-8 makes a frame that the library refuses, so the client stops before it. With
 this flag statements are read as bytes.
@@ -148,6 +149,8 @@ class Client:
         self.path = path
         # by keyspace, shard and table, the columns of the last FIELD event
         self.columns = {}
+        # the changes of a frame of several messages, until its vector comes
+        self.lines = []
 
     def rows(self, event, head):
         table = event.row_event.table_name
@@ -177,16 +180,17 @@ class Client:
             raise BadFrame(f"this client doesn't know events of type {kind}")
 
     def take(self, body):
-        """Prints the changes of a frame, all or none, and then keeps its vector."""
+        """Takes a message of a frame; behind the last one prints the frame's changes, all or none, and keeps its vector."""
         try:
             events = self.response.FromString(body).events
         except (message.DecodeError, UnicodeDecodeError) as error:
             raise BadFrame("the library refuses it; if a statement isn't UTF-8, --bytes reads it") from error
-        lines = [json.dumps(it, ensure_ascii=False) + "\n" for event in events for it in self.changes(event)]
-        sys.stdout.write("".join(lines))
-        sys.stdout.flush()
+        self.lines += [json.dumps(it, ensure_ascii=False) + "\n" for event in events for it in self.changes(event)]
         vectors = [event.vgtid for event in events if self.messages.name_of(event) == "VGTID"]
         if vectors:
+            sys.stdout.write("".join(self.lines))
+            sys.stdout.flush()
+            self.lines = []
             self.keep(vectors[-1])
 
     def keep(self, vector):
@@ -222,6 +226,8 @@ def follow(messages, path):
         for body in frames(sys.stdin.buffer):
             client.take(body)
             number += 1
+        if client.lines:
+            raise BadFrame("the stream ends inside a transaction of several messages")
     except BadFrame as why:
         print(f"follow.py: frame {number}: {why}", file=sys.stderr)
         return 1
