@@ -1,0 +1,10 @@
+pub mod Lines
+pub mod StatusTexts
+pub mod Ends
+pub mod Meanings
+pub mod Worlds
+pub mod Seats
+pub mod Causes
+pub mod Runs
+pub mod Headline
+pub mod Starts

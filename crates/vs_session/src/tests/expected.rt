@@ -1,0 +1,29 @@
+//! Frames as bytes.
+
+/// The frame of the first statement.
+pub const FIRST_FRAME: &[u8] =
+    b"\0\0\0d\nF\x08\x0f\x10d:8\n6\n\x01c\x12\x010\x1a.MySQL56/00000000-0000-0000-0000-0000000\
+    00001:1\xb2\x01\x01c\xba\x01\x010\n\x1a\x08\x05\x10d\x22\x0cdrop table t\xb2\x01\x01c\
+    \xba\x01\x010";
+
+/// The frame of the second.
+pub const SECOND_FRAME: &[u8] =
+    b"\0\0\0f\nH\x08\x0f\x10e::\n8\n\x01c\x12\x010\x1a0MySQL56/00000000-0000-0000-0000-0000000\
+    00001:1-2\xb2\x01\x01c\xba\x01\x010\n\x1a\x08\x05\x10e\x22\x0cdrop table s\xb2\x01\x01c\
+    \xba\x01\x010";
+
+/// Both frames.
+pub const FRAMES: &[u8] =
+    b"\0\0\0d\nF\x08\x0f\x10d:8\n6\n\x01c\x12\x010\x1a.MySQL56/00000000-0000-0000-0000-0000000\
+    00001:1\xb2\x01\x01c\xba\x01\x010\n\x1a\x08\x05\x10d\x22\x0cdrop table t\xb2\x01\x01c\
+    \xba\x01\x010\0\0\0f\nH\x08\x0f\x10e::\n8\n\x01c\x12\x010\x1a0MySQL56/00000000-0000-0000\
+    -0000-000000000001:1-2\xb2\x01\x01c\xba\x01\x010\n\x1a\x08\x05\x10e\x22\x0cdrop table s\
+    \xb2\x01\x01c\xba\x01\x010";
+
+/// A heartbeat at second 110, and both frames.
+pub const BEAT_AND_FRAMES: &[u8] = b"\0\0\0\x07\n\x05\x08\x0e\xa0\x01\x6e\
+    \0\0\0d\nF\x08\x0f\x10d:8\n6\n\x01c\x12\x010\x1a.MySQL56/00000000-0000-0000-0000-0000000\
+    00001:1\xb2\x01\x01c\xba\x01\x010\n\x1a\x08\x05\x10d\x22\x0cdrop table t\xb2\x01\x01c\
+    \xba\x01\x010\0\0\0f\nH\x08\x0f\x10e::\n8\n\x01c\x12\x010\x1a0MySQL56/00000000-0000-0000\
+    -0000-000000000001:1-2\xb2\x01\x01c\xba\x01\x010\n\x1a\x08\x05\x10e\x22\x0cdrop table s\
+    \xb2\x01\x01c\xba\x01\x010";
